@@ -1,0 +1,4 @@
+pub mod Grouping
+pub mod Verdicts
+pub mod Means
+pub mod Averaging

@@ -1,0 +1,16 @@
+pub mod Fraction
+pub mod Rounding
+pub mod Faults
+pub mod Calendar
+pub mod Classes
+pub mod Units
+pub mod Course
+pub mod Merge
+pub mod Plain
+pub mod History
+pub mod Shares
+pub mod LoadYears
+pub mod Methods
+pub mod Cohort
+pub mod Records
+pub mod Promise
