@@ -1,6 +1,11 @@
-pub mod Rounding
 pub mod Calendar
+pub mod Cohorts
 pub mod Courses
 pub mod Distances
+pub mod Fronts
+pub mod Histories
+pub mod Joining
+pub mod Members
+pub mod Rounding
 pub mod Sums
 pub mod Values

@@ -2,8 +2,9 @@
 use mathlib.Core.Bool.{Bool, true, cond, not, _&&_}
 use mathlib.Core.List.{List, [], _∷_}
 use mathlib.Core.Path.{_≡_}
-use Prim.Native.Nat.{ℕ, _+_, _*_, _≤_, _<_}
+use Prim.Native.Nat.{ℕ, _+_, _*_, _<_}
 use lib.Dec.{eqb}
+use lib.ListN.{length}
 use Rattle.std.specs.declared.option.Option.{Option}
 use Rattle.std.specs.declared.option.Option.the-variants.{Some, None}
 use Rattle.std.specs.declared.result.Result.{Result}
@@ -17,7 +18,7 @@ use Rattle.model.specs.declared.faults.Layer.the-variants.{Combined}
 use Rattle.model.specs.declared.faults.Rule.the-variants.{NoSuchDay, WeightsNotHundred, CannotStandAlone}
 use Rattle.model.specs.declared.units.PowerUnit.{PowerUnit}
 use Rattle.model.specs.Calendar.{isDay}
-use Rattle.model.specs.Cohort.{IsCohort, SampleRun, Sufficient, buildFigure, cohortFault, cohortOf, exactBuild, isOld, sampleCount, sampleRun, youngs}
+use Rattle.model.specs.Cohort.{IsCohort, buildFigure, cohortFault, cohortOf, exactBuild, keptUnits, sampleCount}
 use Rattle.model.specs.Course.{Course, toldCourse, walkFault}
 use Rattle.model.specs.Faults.{newFault}
 use Rattle.model.specs.Fraction.{Frac, ratio, plus, times, over, Within}
@@ -25,7 +26,6 @@ use Rattle.model.specs.History.{Composition, History, Lived, SomeHistory, Told
 use Rattle.model.specs.Rounding.{rounded}
 use Rattle.model.specs.Shares.{Verdict, refused, shares, exact}
 use Rattle.model.specs.Units.{Listed}
-use lib.ListN.{length}
 
 -- ---- the first fault
 
@@ -62,17 +62,22 @@ mixed w f v e = over (plus (times (ratio w 1) f) (times (ratio v 1) e)) (ratio 1
 abbrev pub noCohort : Cohort
 noCohort = record { set = Absent; counts = (0, 0, 0) }
 
+-- What is checked before the register is looked at: reference day, weights, and whether the method may stand alone.
+abbrev pub asked : Bool → ℕ → ℕ → ℕ → Option Fault → Option Fault
+asked alone wom wbm reference later =
+    orElse (when (not (isDay reference)) (newFault NoSuchDay Combined 0))
+    (orElse (when (not (eqb (wom + wbm) 100)) (newFault WeightsNotHundred Combined 0))
+    (orElse (when (eqb wbm 0 && not alone) (newFault CannotStandAlone Combined 0)) later))
+
 -- A question: the weights in per cent, the reference day as a number, and the method by what it means.
 module _ (meaning : List Listed → Verdict) (may : List Listed → ℕ → Type 0) (distance : ℕ) (alone : Bool) (wom wbm reference : ℕ) where
-  -- The first fault: reference day, weights, may it stand alone, the walk, the method, the cohort, in this order.
+  -- The first fault: of the question, of the walk, of the method, of the cohort, in this order.
   abbrev pub refusal : Course Listed → Option Fault
   refusal c =
-      orElse (when (not (isDay reference)) (newFault NoSuchDay Combined 0))
-      (orElse (when (not (eqb (wom + wbm) 100)) (newFault WeightsNotHundred Combined 0))
-      (orElse (when (eqb wbm 0 && not alone) (newFault CannotStandAlone Combined 0))
+      asked alone wom wbm reference
       (orElse (walkFault Combined c)
       (orElse (verdictFault (meaning (c .units)))
-      (cond (eqb wbm 0) None (cohortFault reference (c .units)))))))
+      (cond (eqb wbm 0) None (cohortFault reference (c .units)))))
 
   -- the exact value of a list: without a build margin only the operating margin counts
   abbrev pub exactCombined : List Listed → Frac
@@ -96,7 +101,7 @@ module _ (meaning : List Listed → Verdict) (may : List Listed → ℕ → Type
     pub cohort : Answered r (λ m. m .cohort ≡ cond (eqb wbm 0) noCohort (cohortOf reference (listed entry .units)))
     pub words : Answered r (λ m. 0 < wbm → IsCohort reference (listed entry .units) (sampleCount (listed entry .units)) (m .cohort))
     -- The first count is the number of the sample run's units that are not old.
-    pub counted : Answered r (λ m. 0 < wbm → m .cohort .counts .0 ≡ length (youngs reference (sampleRun reference (listed entry .units))))
+    pub counted : Answered r (λ m. 0 < wbm → m .cohort .counts .0 ≡ length (keptUnits reference (listed entry .units)))
     -- Nothing of the register changed, and it is restarted.
     pub kept : exit ≡ entry
     pub restarted : coming ≡ toldCourse (listed entry)

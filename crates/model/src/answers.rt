@@ -49,3 +49,10 @@ pub struct CombinedMargin {
     pub build: u32,
     pub cohort: Cohort,
 }
+
+// How much the operating and the build margin count, in per cent.
+#[derive(Clone, Copy)]
+pub struct Weights {
+    pub operating: u8,
+    pub build: u8,
+}

@@ -58,6 +58,7 @@ pub use answers::BuildMargin;
 pub use answers::Cohort;
 pub use answers::CombinedMargin;
 pub use answers::CohortSet;
+pub use answers::Weights;
 
 mod records;
 pub use records::LoadGroup;

@@ -1,0 +1,58 @@
+use mathlib.Core.Path.{_≡_, ap, _∙_}
+use Rattle.model.specs.Course.{toldCourse}
+use Rattle.model.specs.History.{listed}
+use Rattle.build.proofs.Choosing.{cohort-first, cohort-none, cohort-second, cohort-third}
+use Rattle.build.proofs.cohorts.cohort.Needs as need
+
+pub returns-then-all-eq0 : need.returns-then-all-eq0
+returns-then-all-eq0 g c =
+    let e = c .in-Continue-all .ensures tt in
+    record {
+      contents = e .contents;
+      restarted = e .restarted;
+      answer = cohort-none (c .args .reference) (listed (g .R·Register .contents (c .args .register .now))) _ (e .answer) _ (c .new .ensures) (c .if-all-eq0 .taken);
+    }
+
+pub returns-then-kept-sample : need.returns-then-kept-sample
+returns-then-kept-sample g c =
+    let e = c .in-Continue-all .ensures tt in
+    let f = c .in-Continue-sample .ensures tt in
+    record {
+      contents = f .contents ∙ e .contents;
+      restarted = f .restarted ∙ ap (λ p. toldCourse (listed p)) (e .contents);
+      answer =
+          cohort-first (c .args .reference) (listed (g .R·Register .contents (c .args .register .now))) _ (e .answer) (c .if-all-eq0 .left) _
+          (rw (e .contents) at (f .answer)) (c .if-kept-sample .taken);
+    }
+
+pub returns-then-still-missing-eq0 : need.returns-then-still-missing-eq0
+returns-then-still-missing-eq0 g c =
+    let e = c .in-Continue-all .ensures tt in
+    let f = c .in-Continue-sample .ensures tt in
+    let h = c .in-Continue-registered .ensures tt in
+    let two = f .contents ∙ e .contents in
+    record {
+      contents = h .contents ∙ two;
+      restarted = h .restarted ∙ ap (λ p. toldCourse (listed p)) two;
+      answer =
+          cohort-second (c .args .reference) (listed (g .R·Register .contents (c .args .register .now))) _ (e .answer) (c .if-all-eq0 .left) _
+          (rw (e .contents) at (f .answer)) (c .if-kept-sample .left) _ (c .saturating-sub-missing .ensures) _
+          (rw two at (h .answer)) _ (c .saturating-sub-still-missing .ensures) (c .if-still-missing-eq0 .taken);
+    }
+
+pub returns : need.returns
+returns g c =
+    let e = c .in-Continue-all .ensures tt in
+    let f = c .in-Continue-sample .ensures tt in
+    let h = c .in-Continue-registered .ensures tt in
+    let i = c .in-Continue-back .ensures tt in
+    let two = f .contents ∙ e .contents in
+    let three = h .contents ∙ two in
+    record {
+      contents = i .contents ∙ three;
+      restarted = i .restarted ∙ ap (λ p. toldCourse (listed p)) three;
+      answer =
+          cohort-third (c .args .reference) (listed (g .R·Register .contents (c .args .register .now))) _ (e .answer) (c .if-all-eq0 .left) _
+          (rw (e .contents) at (f .answer)) (c .if-kept-sample .left) _ (c .saturating-sub-missing .ensures) _
+          (rw two at (h .answer)) _ (c .saturating-sub-still-missing .ensures) (c .if-still-missing-eq0 .left) _ (rw three at (i .answer));
+    }

@@ -1,0 +1,92 @@
+// The build cohort: the sample run, or what takes its place where units of it are old.
+ghost use mathlib.Core.Path.{_≡_};
+ghost use denote.Ref.{now};
+ghost use Rattle.std.specs.declared.result.Result.the-variants.{Err, Ok};
+ghost use Rattle.model.specs.Course.{ifWalked, toldCourse};
+ghost use Rattle.model.specs.History.{listed};
+ghost use Rattle.model.specs.declared.faults.Layer.the-variants.{Build};
+ghost use Rattle.build.specs.Members.{cohortOr};
+use super::kinds::Kind;
+use super::runs::Quota;
+use super::runs::walk_run;
+use model::BuildFault;
+use model::Cohort;
+use model::CohortSet;
+use model::Fault;
+use model::Layer;
+use model::Rule;
+use register::Register;
+
+// A sample run has at least so many units, or all there are.
+const SAMPLE: u16 = 5;
+
+// More units than a walk takes.
+const ALL: u16 = 4_001;
+
+// The cohort of the register's list. It leaves the register restarted.
+pub fn cohort<R: Register>(register: &mut R, reference: u32) -> Result<Cohort, BuildFault>
+    ensures contents { λ _. ⌜ R·Register .contents (now (register .exit)) ≡ R·Register .contents (now (register .entry)) ⌝ }
+    ensures restarted { λ _. ⌜ R·Register .coming (now (register .exit)) ≡ toldCourse (listed (R·Register .contents (now (register .entry)))) ⌝ }
+    ensures answer { λ r. ⌜ r ≡ ifWalked Build (listed (R·Register .contents (now (register .entry)))) (cohortOr reference (listed (R·Register .contents (now (register .entry))) .units)) (λ f. Err (record { fault = f })) ⌝ }
+{
+    let all = walk_run(
+        register,
+        reference,
+        Quota {
+            kind: Kind::Unregistered,
+            least: ALL,
+            missing: 0,
+        },
+    )?.all;
+    if all.units == 0 {
+        return Err(BuildFault {
+            fault: Fault::new(Rule::NoBuildUnit, Layer::Build, 0),
+        });
+    }
+    let sample = walk_run(
+        register,
+        reference,
+        Quota {
+            kind: Kind::Unregistered,
+            least: SAMPLE,
+            missing: all.generation,
+        },
+    )?;
+    let kept = sample.young;
+    if kept.units == sample.all.units {
+        return Ok(Cohort {
+            set: CohortSet::Sample,
+            counts: (kept.units, 0, 0),
+        });
+    }
+    let missing = all.generation.saturating_sub(5 * kept.generation);
+    let registered = walk_run(
+        register,
+        reference,
+        Quota {
+            kind: Kind::Registered,
+            least: 0,
+            missing,
+        },
+    )?.all;
+    let still_missing = missing.saturating_sub(5 * registered.generation);
+    if still_missing == 0 {
+        return Ok(Cohort {
+            set: CohortSet::WithRegistered,
+            counts: (kept.units, registered.units, 0),
+        });
+    }
+    let back = walk_run(
+        register,
+        reference,
+        Quota {
+            kind: Kind::Old,
+            least: 0,
+            missing: still_missing,
+        },
+    )?.all;
+    Ok(Cohort {
+        set: CohortSet::WithOld,
+        counts: (kept.units, registered.units, back.units),
+    })
+}

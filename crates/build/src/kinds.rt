@@ -1,0 +1,42 @@
+// The kinds of units that a run is made of.
+ghost use mathlib.Core.Path.{_≡_};
+ghost use Rattle.build.specs.Kinds.{belongs, startedLong};
+use model::PowerUnit;
+
+// Ten years, as days are written.
+const TEN_YEARS: u64 = 100_000;
+
+#[derive(Clone, Copy)]
+pub enum Kind {
+    // Home units that are not registered.
+    Unregistered,
+    // Registered home units.
+    Registered,
+    // Unregistered home units that are old.
+    Old,
+}
+
+// More than ten years older than the reference day. The sum may pass 32 bits.
+pub fn is_old(reference: u32, unit: &PowerUnit) -> bool
+    ensures { λ r. ⌜ r ≡ startedLong reference (now (unit .entry)) ⌝ }
+{
+    u64::from(unit.day) + TEN_YEARS < u64::from(reference)
+}
+
+pub fn is_unregistered(unit: &PowerUnit) -> bool
+    ensures { λ r. ⌜ r ≡ belongs Kind.Unregistered 0 (now (unit .entry)) ⌝ }
+{
+    unit.class.is_home() && !unit.class.is_registered()
+}
+
+impl Kind {
+    pub fn has(self, reference: u32, unit: &PowerUnit) -> bool
+        ensures { λ r. ⌜ r ≡ belongs self reference (now (unit .entry)) ⌝ }
+    {
+        match self {
+            Kind::Unregistered => is_unregistered(unit),
+            Kind::Registered => unit.class.is_registered(),
+            Kind::Old => is_unregistered(unit) && is_old(reference, unit),
+        }
+    }
+}

@@ -1,0 +1,4 @@
+pub mod Asking
+pub mod Mixing
+pub mod Parts
+pub mod Whole
