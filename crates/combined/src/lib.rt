@@ -52,7 +52,9 @@ pub impl Fold for Passing as PassingFold {
 fn refusal(rule: Rule) -> CombinedFault
     ensures { λ r. ⌜ r .fault ≡ record { rule = rule; layer = Layer.Combined; place = 0; trail = 1 } ⌝ }
 {
-    CombinedFault { fault: Fault::new(rule, Layer::Combined, 0) }
+    CombinedFault {
+        fault: Fault::new(rule, Layer::Combined, 0),
+    }
 }
 
 // The reference day, unless the question itself is refused: for its day, its weights, or for standing alone.
@@ -72,13 +74,23 @@ fn question<M: Method>(weights: Weights, reference: u32) -> Result<Day, Combined
 }
 
 // The build margin, or zeros where it has no weight.
-fn weighted_build<R: Register>(weights: Weights, register: &mut R, reference: Day) -> Result<BuildMargin, CombinedFault>
+fn weighted_build<R: Register>(
+    weights: Weights,
+    register: &mut R,
+    reference: Day,
+) -> Result<BuildMargin, CombinedFault>
     ensures contents { λ _. ⌜ R·Register .contents (now (register .exit)) ≡ R·Register .contents (now (register .entry)) ⌝ }
     ensures restarted { λ _. ⌜ (R·Register .coming (now (register .entry)) ≡ toldCourse (listed (R·Register .contents (now (register .entry)))) → R·Register .coming (now (register .exit)) ≡ toldCourse (listed (R·Register .contents (now (register .entry))))) ⌝ }
     ensures answer { λ r. ⌜ r ≡ builtFor (weights .build) (reference .number) (listed (R·Register .contents (now (register .entry)))) ⌝ }
 {
     if weights.build == 0 {
-        return Ok(BuildMargin { margin: 0, cohort: Cohort { set: CohortSet::Absent, counts: (0, 0, 0) } });
+        return Ok(BuildMargin {
+            margin: 0,
+            cohort: Cohort {
+                set: CohortSet::Absent,
+                counts: (0, 0, 0),
+            },
+        });
     }
     Ok(build_margin(register, reference)?)
 }
@@ -88,7 +100,8 @@ fn mixture(weights: Weights, operating: u32, build: u32) -> u32
     requires { ⌜ weights .operating + weights .build ≡ 100 ⌝ }
     ensures { λ r. ⌜ r ≡ rounded (ratio (weights .operating * operating + weights .build * build) 100) ⌝ }
 {
-    let hundredths = u64::from(weights.operating) * u64::from(operating) + u64::from(weights.build) * u64::from(build);
+    let hundredths = u64::from(weights.operating) * u64::from(operating)
+        + u64::from(weights.build) * u64::from(build);
     match Ratio::new(hundredths, 100) {
         Some(ratio) => ratio.rounded() as u32,
         None => unreachable(),
@@ -97,7 +110,12 @@ fn mixture(weights: Weights, operating: u32, build: u32) -> u32
 
 // The margins and the cohort of the register's list by a method, on a reference day. Refused with the first fault: of the
 // question, of the walk, of the method, of the cohort. The register is left restarted, refused or not.
-pub fn combined_margin<R: Register, M: Method>(method: &M, register: &mut R, weights: Weights, reference: u32) -> Result<CombinedMargin, CombinedFault>
+pub fn combined_margin<R: Register, M: Method>(
+    method: &M,
+    register: &mut R,
+    weights: Weights,
+    reference: u32,
+) -> Result<CombinedMargin, CombinedFault>
     ensures { λ r. ⌜ Promise (M·Method .meaning (now (method .entry))) (M·Method .may (now (method .entry))) (M·Method .halves) (M·Method .alone) (weights .operating) (weights .build) reference (R·Register .contents (now (register .entry))) (R·Register .contents (now (register .exit))) (R·Register .coming (now (register .exit))) r ⌝ }
 {
     register.restart();
@@ -106,5 +124,10 @@ pub fn combined_margin<R: Register, M: Method>(method: &M, register: &mut R, wei
     let operating = method.operating_margin(register)?;
     let build = weighted_build(weights, register, day)?;
     let combined = mixture(weights, operating, build.margin);
-    Ok(CombinedMargin { combined, operating, build: build.margin, cohort: build.cohort })
+    Ok(CombinedMargin {
+        combined,
+        operating,
+        build: build.margin,
+        cohort: build.cohort,
+    })
 }

@@ -48,7 +48,11 @@ fn fuel(class: u8, fields: &[u8]) -> Option<Record>
     if class != 0 || !all_zero(&fields[10..30]) {
         return None;
     }
-    Some(Record::Fuel(Fuel { code: word(fields, 0), heat_content: long(fields, 2), carbon_factor: long(fields, 6) }))
+    Some(Record::Fuel(Fuel {
+        code: word(fields, 0),
+        heat_content: long(fields, 2),
+        carbon_factor: long(fields, 6),
+    }))
 }
 
 fn unit(class: u8, fields: &[u8]) -> Option<Record>
@@ -75,7 +79,11 @@ fn burn(class: u8, fields: &[u8]) -> Option<Record>
     if class != 0 || !all_zero(&fields[4..6]) || !all_zero(&fields[10..30]) {
         return None;
     }
-    Some(Record::Burn(BurnEntry { unit: word(fields, 0), fuel: word(fields, 2), quantity: long(fields, 6) }))
+    Some(Record::Burn(BurnEntry {
+        unit: word(fields, 0),
+        fuel: word(fields, 2),
+        quantity: long(fields, 6),
+    }))
 }
 
 fn strike(class: u8, fields: &[u8]) -> Option<Record>
@@ -95,8 +103,18 @@ fn load(class: u8, fields: &[u8]) -> Option<Record>
     if class != 0 || !all_zero(&fields[2..6]) {
         return None;
     }
-    let loads = [long(fields, 6), long(fields, 10), long(fields, 14), long(fields, 18), long(fields, 22), long(fields, 26)];
-    Some(Record::Load(LoadGroup { group: word(fields, 0), loads }))
+    let loads = [
+        long(fields, 6),
+        long(fields, 10),
+        long(fields, 14),
+        long(fields, 18),
+        long(fields, 22),
+        long(fields, 26),
+    ];
+    Some(Record::Load(LoadGroup {
+        group: word(fields, 0),
+        loads,
+    }))
 }
 
 fn yearly(class: u8, fields: &[u8]) -> Option<Record>
@@ -106,7 +124,11 @@ fn yearly(class: u8, fields: &[u8]) -> Option<Record>
     if !all_zero(&fields[0..2]) || !all_zero(&fields[10..30]) {
         return None;
     }
-    Some(Record::Yearly(YearlyPair { year: class, low_cost: long(fields, 2), all: long(fields, 6) }))
+    Some(Record::Yearly(YearlyPair {
+        year: class,
+        low_cost: long(fields, 2),
+        all: long(fields, 6),
+    }))
 }
 
 fn question(class: u8, fields: &[u8]) -> Option<Record>
@@ -116,7 +138,12 @@ fn question(class: u8, fields: &[u8]) -> Option<Record>
     if !all_zero(&fields[6..30]) {
         return None;
     }
-    Some(Record::Question(Question { method: class, operating_weight: fields[0], build_weight: fields[1], reference: long(fields, 2) }))
+    Some(Record::Question(Question {
+        method: class,
+        operating_weight: fields[0],
+        build_weight: fields[1],
+        reference: long(fields, 2),
+    }))
 }
 
 // What the bytes say; nothing where they are short, of another kind, or have a filler byte that is not zero.

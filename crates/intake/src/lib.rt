@@ -1,18 +1,22 @@
 // The intake: 32-byte records in, entries into a year book and answers out.
 
 mod decoding;
+
 pub use decoding::decode;
 
 mod faults;
+
 pub use faults::IntakeFault;
 
 mod phases;
-pub use phases::FeatureDebug;
+
 pub use phases::Feature;
+pub use phases::FeatureDebug;
 pub use phases::Intake;
 pub use phases::Reply;
 
 mod lines;
+
 pub use lines::FeatureDisplay;
 pub use lines::FeatureError;
 pub use lines::Line;

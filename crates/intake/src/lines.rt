@@ -24,7 +24,10 @@ pub impl fmt::Display for Line as LineDisplay {
                 let combined = margin.combined;
                 let operating = margin.operating;
                 let build = margin.build;
-                write!(f, "CM {combined:08} OM {operating:08} BM {build:08} SET {set} {kept:04} {registered:04} {back:04}")
+                write!(
+                    f,
+                    "CM {combined:08} OM {operating:08} BM {build:08} SET {set} {kept:04} {registered:04} {back:04}"
+                )
             }
             Line::Refused(refused) => {
                 let rule = refused.fault.rule.number();
@@ -37,7 +40,11 @@ pub impl fmt::Display for Line as LineDisplay {
 }
 
 // Takes one piece of the stream, and gives the line that it is answered with; an accepted entry has none.
-pub fn respond(intake: &mut Intake, book: &mut Book, piece: &[u8]) -> Result<Option<Line>, Feature> {
+pub fn respond(
+    intake: &mut Intake,
+    book: &mut Book,
+    piece: &[u8],
+) -> Result<Option<Line>, Feature> {
     match intake.take(book, piece) {
         Ok(reply) => match reply {
             Reply::Entered => Ok(None),
@@ -54,7 +61,9 @@ pub impl fmt::Display for Feature as FeatureDisplay {
             Feature::LoadRecords => f.write_str("load records (H) are not built yet"),
             Feature::YearlyRecords => f.write_str("yearly records (Y) are not built yet"),
             Feature::SimpleMethod => f.write_str("the simple method (1) is not built yet"),
-            Feature::AdjustedMethod => f.write_str("the simple adjusted method (2) is not built yet"),
+            Feature::AdjustedMethod => f.write_str(
+                "the simple adjusted method (2) is not built yet",
+            ),
         }
     }
 }

@@ -49,7 +49,9 @@ pub struct Intake {
 }
 
 fn refusal(rule: Rule, layer: Layer, place: u32) -> IntakeFault {
-    IntakeFault { fault: Fault::new(rule, layer, place) }
+    IntakeFault {
+        fault: Fault::new(rule, layer, place),
+    }
 }
 
 // A question that goes to no method is checked for its day alone, and leaves the book's walk restarted as any question does.
@@ -62,7 +64,10 @@ fn without_method(book: &mut Book, question: Question) -> Result<(), IntakeFault
 }
 
 fn answer(book: &mut Book, question: Question) -> Result<Reply, IntakeFault> {
-    let weights = Weights { operating: question.operating_weight, build: question.build_weight };
+    let weights = Weights {
+        operating: question.operating_weight,
+        build: question.build_weight,
+    };
     match question.method {
         1 => {
             without_method(book, question)?;
@@ -82,7 +87,10 @@ fn answer(book: &mut Book, question: Question) -> Result<Reply, IntakeFault> {
 
 impl Intake {
     pub fn new() -> Intake {
-        Intake { phase: Phase::Gathering, index: 0 }
+        Intake {
+            phase: Phase::Gathering,
+            index: 0,
+        }
     }
 
     // Takes one piece of the stream, which is a whole record or the short last one.

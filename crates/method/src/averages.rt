@@ -41,7 +41,9 @@ pub impl Method for Average as AverageMethod {
     fn operating_margin<R: Register>(&self, register: &mut R) -> Result<u32, MethodFault> {
         let (low_cost, other) = group_sums(register)?;
         let Some(mean) = Ratio::new(low_cost.0 + other.0, low_cost.1 + other.1) else {
-            return Err(MethodFault { fault: Fault::new(Rule::NoShare, Layer::Method, 0) });
+            return Err(MethodFault {
+                fault: Fault::new(Rule::NoShare, Layer::Method, 0),
+            });
         };
         Ok(mean.rounded() as u32)
     }

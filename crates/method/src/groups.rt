@@ -51,7 +51,10 @@ pub fn group_sums<R: Register>(register: &mut R) -> Result<((u64, u64), (u64, u6
     ensures answer { λ r. ⌜ r ≡ ifWalked Method (listed (R·Register .contents (now (register .entry)))) (Ok (groupSums (listed (R·Register .contents (now (register .entry))) .units))) (λ f. Err (record { fault = f })) ⌝ }
     ensures small { λ r. ⌜ made r (λ s. (s .0 .1 + s .1 .1 ≤ 400000000000) × (s .0 .0 ≤ 10000000 * s .0 .1) × (s .1 .0 ≤ 10000000 * s .1 .1)) ⌝ }
 {
-    let mut sums = GroupSums { low_cost: (0, 0), other: (0, 0) };
+    let mut sums = GroupSums {
+        low_cost: (0, 0),
+        other: (0, 0),
+    };
     let _ = walk(register, Layer::Method, &mut sums)?;
     Ok((sums.low_cost, sums.other))
 }

@@ -51,8 +51,10 @@ pub trait Method {
 }
 
 mod groups;
+
 pub use groups::group_sums;
 
 mod averages;
+
 pub use averages::Average;
 pub use averages::AverageMethod;

@@ -267,6 +267,6 @@ abbrev pub MembersAre : Type 0
 MembersAre =
     (reference : ℕ) (us : List Listed) → Falling us → 0 < length (unregistered us)
     → Shuffled
-      (keptUnits reference us
-      ++ (take (cohortOf reference us .counts .1) (registered us) ++ take (cohortOf reference us .counts .2) (olds reference (unregistered us))))
-      (membersOf reference us (cohortOf reference us))
+    (keptUnits reference us
+    ++ (take (cohortOf reference us .counts .1) (registered us) ++ take (cohortOf reference us .counts .2) (olds reference (unregistered us))))
+    (membersOf reference us (cohortOf reference us))

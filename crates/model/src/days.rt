@@ -6,6 +6,7 @@ ghost use Rattle.std.specs.Options.{Cases as BySome, isSome};
 
 // Days of the months January to December, in common and in leap years.
 const COMMON: [u8; 12] = [31, 28, 31, 30, 31, 30, 31, 31, 30, 31, 30, 31];
+
 const LEAP: [u8; 12] = [31, 29, 31, 30, 31, 30, 31, 31, 30, 31, 30, 31];
 
 #[derive(Clone, Copy)]
@@ -28,7 +29,11 @@ fn month_length(year: u32, month: u32) -> u8
         return 0;
     }
     let index = (month - 1) as usize;
-    if is_leap(year) { LEAP[index] } else { COMMON[index] }
+    if is_leap(year) {
+        LEAP[index]
+    } else {
+        COMMON[index]
+    }
 }
 
 impl Day {

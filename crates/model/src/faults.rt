@@ -105,7 +105,12 @@ impl Fault {
     pub fn new(rule: Rule, layer: Layer, place: u32) -> Fault
         ensures { λ r. ⌜ r ≡ newFault rule layer place ⌝ }
     {
-        Fault { rule, layer, place, trail: 1 }
+        Fault {
+            rule,
+            layer,
+            place,
+            trail: 1,
+        }
     }
 }
 

@@ -2,6 +2,7 @@
 // The definitions that the contracts cite are in specs/.
 
 mod faults;
+
 pub use faults::BookFault;
 pub use faults::BookFaultDebug;
 pub use faults::BookFaultPartialEq;
@@ -33,17 +34,21 @@ pub use faults::RuleDebug;
 pub use faults::RulePartialEq;
 
 mod days;
+
 pub use days::Day;
 
 mod classes;
+
 pub use classes::Class;
 pub use classes::ClassDebug;
 pub use classes::ClassPartialEq;
 
 mod ratios;
+
 pub use ratios::Ratio;
 
 mod units;
+
 pub use units::Burn;
 pub use units::BurnEntry;
 pub use units::Fuel;
@@ -51,20 +56,24 @@ pub use units::PowerUnit;
 pub use units::UnitEntry;
 
 mod events;
+
 pub use events::Event;
 
 mod answers;
+
 pub use answers::BuildMargin;
 pub use answers::Cohort;
-pub use answers::CombinedMargin;
 pub use answers::CohortSet;
+pub use answers::CombinedMargin;
 pub use answers::Weights;
 
 mod records;
+
 pub use records::LoadGroup;
 pub use records::Question;
 pub use records::Record;
 pub use records::YearlyPair;
 
 mod facts;
+
 pub use facts::rounding_laws;

@@ -23,18 +23,6 @@ impl Ratio {
         Some(Ratio { num, den })
     }
 
-    pub fn numerator(&self) -> u64
-        ensures { λ r. ⌜ r ≡ now (self .entry) .num ⌝ }
-    {
-        self.num
-    }
-
-    pub fn denominator(&self) -> u64
-        ensures { λ r. ⌜ r ≡ now (self .entry) .den ⌝ }
-    {
-        self.den
-    }
-
     // To the nearest whole number, halves up.
     pub fn rounded(&self) -> u64
         ensures value { λ r. ⌜ r ≡ rounded (ratio (now (self .entry) .num) (now (self .entry) .den)) ⌝ }
@@ -42,6 +30,10 @@ impl Ratio {
     {
         let whole = self.num / self.den;
         let rest = self.num % self.den;
-        if rest < self.den - rest { whole } else { whole + 1 }
+        if rest < self.den - rest {
+            whole
+        } else {
+            whole + 1
+        }
     }
 }

@@ -38,14 +38,15 @@ rounded-option n (Some f) h = rounded-cap f (10000000 * n) (h .real) (h .cap)
 -- what is told of units in range is within the caps
 pub caps : (us : List Listed) → Ranged us → All Cap (map told us)
 caps [] h = tt
-caps (u ∷ us) h =
-    (record {
-      some = h .0 .some;
-      most = h .0 .most;
-      grams = rounded-cap (u .emission) (10000000 * u .generation) (h .0 .emits .real) (h .0 .emits .cap);
-      defaults = rounded-option (u .generation) (u .default) (h .0 .defaults);
-    },
-    caps us (h .1))
+caps (u ∷ us) h = (
+  record {
+    some = h .0 .some;
+    most = h .0 .most;
+    grams = rounded-cap (u .emission) (10000000 * u .generation) (h .0 .emits .real) (h .0 .emits .cap);
+    defaults = rounded-option (u .generation) (u .default) (h .0 .defaults);
+  },
+  caps us (h .1),
+)
 
 -- `left` is still to come of `all`, `count` units were taken, and s is what the fold holds
 pub record Folding {S : Type 0} (step : S → PowerUnit → S) (fits : S → ℕ → Type 0) (start : S) (all left : List PowerUnit) (count : ℕ) (s : S) : Type 0 where
@@ -89,10 +90,10 @@ module _ {S : Type 0} (step : S → PowerUnit → S) (fits : S → ℕ → Type 
   folding-past left u count s w h =
       let longer : Limit < length all = elim (cases-lt Limit count) [ inl more ↦ w .many more | inr same ↦ omega (arith, w .counts same) ] in
       let over : s ≡ folded step start (take Limit all) =
-          elim (cases-lt Limit count) [
-            | inl more ↦ w .done more
-            | inr same ↦ ap (folded step s) (sym (take-none (Limit - count) (u ∷ left) (omega arith))) ∙ w .gives same
-          ] in
+      elim (cases-lt Limit count) [
+        | inl more ↦ w .done more
+        | inr same ↦ ap (folded step s) (sym (take-none (Limit - count) (u ∷ left) (omega arith))) ∙ w .gives same
+      ] in
       record {
         few = omega arith;
         counts = λ k. absurd (omega arith);

@@ -38,5 +38,6 @@ pub trait Register {
 }
 
 mod walks;
+
 pub use walks::Fold;
 pub use walks::walk;

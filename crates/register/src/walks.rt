@@ -48,7 +48,11 @@ pub trait Fold {
 
 // Walks to the end and tells the number of units. The register's own fault comes first, then a 4,001st unit, which has the
 // asker's layer. The fold has taken the first 4,000 units, and the register is left restarted, refused or not.
-pub fn walk<R: Register, F: Fold>(register: &mut R, layer: Layer, fold: &mut F) -> Result<u32, RegisterFault>
+pub fn walk<R: Register, F: Fold>(
+    register: &mut R,
+    layer: Layer,
+    fold: &mut F,
+) -> Result<u32, RegisterFault>
     ensures contents { λ _. ⌜ R·Register .contents (now (register .exit)) ≡ R·Register .contents (now (register .entry)) ⌝ }
     ensures restarted { λ _. ⌜ R·Register .coming (now (register .exit)) ≡ toldCourse (listed (R·Register .contents (now (register .entry)))) ⌝ }
     ensures answer { λ r. ⌜ r ≡ ifWalked layer (listed (R·Register .contents (now (register .entry)))) (Ok (length (listed (R·Register .contents (now (register .entry))) .units))) (λ f. Err (record { fault = f })) ⌝ }
@@ -79,7 +83,9 @@ pub fn walk<R: Register, F: Fold>(register: &mut R, layer: Layer, fold: &mut F) 
     }
     register.restart();
     if count > LIMIT {
-        return Err(RegisterFault { fault: Fault::new(Rule::TooManyUnits, layer, 0) });
+        return Err(RegisterFault {
+            fault: Fault::new(Rule::TooManyUnits, layer, 0),
+        });
     }
     Ok(count)
 }

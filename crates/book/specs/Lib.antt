@@ -1,0 +1,3 @@
+pub mod Burns
+pub mod Standing
+pub mod Seen

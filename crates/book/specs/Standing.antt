@@ -1,0 +1,30 @@
+-- A unit of the book's table in the words of the subject.
+use mathlib.Core.Bool.{true}
+use mathlib.Core.List.{List, []}
+use mathlib.Core.Path.{_≡_}
+use Prim.Native.Nat.{ℕ, _<_}
+use lib.ListN.{getD, length, take}
+use Rattle.book.specs.declared.standing.StandingUnit.{StandingUnit}
+use Rattle.model.specs.declared.ratios.Ratio.{Ratio}
+use Rattle.model.specs.declared.units.UnitEntry.{UnitEntry}
+use Rattle.model.specs.Fraction.{Frac, ratio}
+use Rattle.model.specs.Plain.{isUnit, noUnit, unitOf}
+use Rattle.model.specs.Units.{Standing}
+
+-- The unit and its burns; the free places of its table are left out.
+abbrev pub standing : StandingUnit → Standing
+standing u = record { entry = u .entry; burns = take (u .count) (u .burns) }
+
+-- The fraction that a `Ratio` is.
+abbrev pub fraction : Ratio → Frac
+fraction r = ratio (r .num) (r .den)
+
+-- A unit as it is entered, without burns.
+abbrev pub fresh : UnitEntry → Standing
+fresh e = record { entry = e; burns = [] }
+
+-- The first unit with the code c stands at the place i.
+pub record StandsAt (c : ℕ) (us : List Standing) (i : ℕ) : Type 0 where
+  pub within : i < length us
+  pub coded : isUnit c (getD us i noUnit) ≡ true
+  pub is : unitOf c us ≡ getD us i noUnit
