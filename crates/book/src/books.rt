@@ -4,16 +4,18 @@ ghost use Prim.Native.Nat.{_≤_};
 ghost use Rattle.std.specs.Of.Vec.{vec-cap, vec-items, vec-len};
 ghost use Rattle.model.specs.Plain.{Reached};
 ghost use Rattle.book.specs.Standing.{standing};
-use model::Fuel;
 use super::StandingUnit;
+use model::Fuel;
 
 mod checks;
 mod entries;
 mod lookup;
 mod walk;
+
 pub use walk::BookRegister;
 
 const FUELS: usize = 64;
+
 const UNITS: usize = 1_000;
 
 // Room for all fuels and units is reserved when the book is made, so that no later call allocates.

@@ -6,6 +6,7 @@ pub mod Classes
 pub mod Units
 pub mod Course
 pub mod Merge
+pub mod Packed
 pub mod Plain
 pub mod History
 pub mod Shares

@@ -141,6 +141,11 @@ pub struct CombinedFault {
     pub fault: Fault,
 }
 
+#[derive(Clone, Copy, PartialEq, Eq, Debug)]
+pub struct PackingFault {
+    pub fault: Fault,
+}
+
 pub impl From<RegisterFault> for MethodFault as MethodFromRegister {
     ghost converts = { λ below above. above .fault ≡ below .fault };
 
@@ -178,5 +183,13 @@ pub impl From<BuildFault> for CombinedFault as CombinedFromBuild {
 
     fn from(below: BuildFault) -> CombinedFault {
         CombinedFault { fault: below.fault }
+    }
+}
+
+pub impl From<RegisterFault> for PackingFault as PackingFromRegister {
+    ghost converts = { λ below above. above .fault ≡ below .fault };
+
+    fn from(below: RegisterFault) -> PackingFault {
+        PackingFault { fault: below.fault }
     }
 }

@@ -31,7 +31,9 @@ pub struct Accepted {
 fn refusal(rule: Rule, code: u16) -> BookFault
     ensures { λ r. ⌜ r ≡ record { fault = bookFault rule code } ⌝ }
 {
-    BookFault { fault: Fault::new(rule, Layer::Book, u32::from(code)) }
+    BookFault {
+        fault: Fault::new(rule, Layer::Book, u32::from(code)),
+    }
 }
 
 fn fuel_in_range(fuel: &Fuel) -> bool
@@ -118,7 +120,10 @@ impl Book {
         let Some(fuel) = find_fuel(&self.fuels, entry.fuel) else {
             return Err(refusal(Rule::NotStanding, entry.fuel));
         };
-        let burn = Burn { fuel, quantity: entry.quantity };
+        let burn = Burn {
+            fuel,
+            quantity: entry.quantity,
+        };
         if unit.is_full() {
             return Err(refusal(Rule::TableFull, entry.unit));
         }

@@ -22,7 +22,11 @@ impl Book {
     {
         let fuels = Vec::with_capacity(heap, FUELS)?;
         let units = Vec::with_capacity(heap, UNITS)?;
-        Ok(Book { fuels, units, at: 0 })
+        Ok(Book {
+            fuels,
+            units,
+            at: 0,
+        })
     }
 
     pub fn enter_fuel(&mut self, fuel: Fuel) -> Result<(), BookFault>

@@ -22,7 +22,14 @@ const PLACES: usize = 4;
 // The most thousandths of a gram that a unit without an efficiency may emit for each MWh.
 const MOST: u64 = 10_000_000_000;
 
-const NO_BURN: Burn = Burn { fuel: Fuel { code: 0, heat_content: 0, carbon_factor: 0 }, quantity: 0 };
+const NO_BURN: Burn = Burn {
+    fuel: Fuel {
+        code: 0,
+        heat_content: 0,
+        carbon_factor: 0,
+    },
+    quantity: 0,
+};
 
 // The thousandths of a gram from a burn.
 pub fn thousandths(burn: &Burn) -> u64
@@ -30,7 +37,9 @@ pub fn thousandths(burn: &Burn) -> u64
     ensures value { λ r. ⌜ r ≡ burned (now (burn .entry)) ⌝ }
     ensures bound { λ r. ⌜ r ≤ 320000000000000000 ⌝ }
 {
-    u64::from(burn.quantity) * u64::from(burn.fuel.heat_content) * u64::from(burn.fuel.carbon_factor)
+    u64::from(burn.quantity)
+        * u64::from(burn.fuel.heat_content)
+        * u64::from(burn.fuel.carbon_factor)
 }
 
 impl StandingUnit {
@@ -41,7 +50,11 @@ impl StandingUnit {
         requires { ⌜ unitInRange entry ≡ true ⌝ }
         ensures { λ r. ⌜ standing r ≡ record { entry = entry; burns = [] } ⌝ }
     {
-        StandingUnit { entry, burns: [NO_BURN; 4], count: 0 }
+        StandingUnit {
+            entry,
+            burns: [NO_BURN; 4],
+            count: 0,
+        }
     }
 
     pub fn entry(&self) -> UnitEntry
@@ -95,7 +108,8 @@ impl StandingUnit {
         requires { ⌜ Fits (now burn) ⌝ }
         ensures { λ r. ⌜ r ≡ exceeds (standing (now (self .entry))) (now (burn .entry)) ⌝ }
     {
-        self.entry.efficiency == 0 && MOST * u64::from(self.entry.generation) < self.burned() + thousandths(burn)
+        self.entry.efficiency == 0
+            && MOST * u64::from(self.entry.generation) < self.burned() + thousandths(burn)
     }
 
     // The unit with one burn more.
@@ -107,6 +121,10 @@ impl StandingUnit {
     {
         let mut burns = self.burns;
         burns[self.count] = burn;
-        StandingUnit { entry: self.entry, burns, count: self.count + 1 }
+        StandingUnit {
+            entry: self.entry,
+            burns,
+            count: self.count + 1,
+        }
     }
 }

@@ -46,7 +46,10 @@ impl StandingUnit {
         let Some(factor) = self.lowest_carbon_factor() else {
             return quotient(0, 1);
         };
-        quotient(u64::from(self.entry.generation) * u64::from(factor) * 3_600, u64::from(efficiency))
+        quotient(
+            u64::from(self.entry.generation) * u64::from(factor) * 3_600,
+            u64::from(efficiency),
+        )
     }
 
     // The exact emission in grams: by the fuel burned, or by the efficiency where there is one.

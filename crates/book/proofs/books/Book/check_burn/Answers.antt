@@ -37,8 +37,8 @@ returns-in-rest c =
     let unburned : any (burnsFuel (e .fuel)) (unitOf (e .unit) (p .units) .burns) ≡ false = rw none refl in
     ap Err (c .refusal-in-rest .ensures)
     ∙ refused-at (burnChecks p e) 3 past (omega arith)
-      (some-code (e .unit) (e .fuel) (c .if-entry-eq0 .left) (c .if-entry-eq0-2 .left), (le-ltb 10000000 (e .quantity) (c .if-entry-gt10000000 .left), (unburned, tt)))
-      (not-from-false _ (sym absent))
+    (some-code (e .unit) (e .fuel) (c .if-entry-eq0 .left) (c .if-entry-eq0-2 .left), (le-ltb 10000000 (e .quantity) (c .if-entry-gt10000000 .left), (unburned, tt)))
+    (not-from-false _ (sym absent))
 
 pub index-requires : need.index-requires
 index-requires c κs =
@@ -56,8 +56,8 @@ returns-then-burns-fuel c =
     let burns : any (burnsFuel (e .fuel)) (unitOf (e .unit) (p .units) .burns) ≡ true = rw (f .is) (sym (c .if-burns-fuel .ensures tt)) in
     ap Err (c .refusal-then-burns-fuel .ensures)
     ∙ refused-at (burnChecks p e) 2 past (omega arith)
-      (some-code (e .unit) (e .fuel) (c .if-entry-eq0 .left) (c .if-entry-eq0-2 .left), (le-ltb 10000000 (e .quantity) (c .if-entry-gt10000000 .left), tt))
-      burns
+    (some-code (e .unit) (e .fuel) (c .if-entry-eq0 .left) (c .if-entry-eq0-2 .left), (le-ltb 10000000 (e .quantity) (c .if-entry-gt10000000 .left), tt))
+    burns
 
 -- ---- once the unit stands, without this fuel
 
@@ -76,8 +76,8 @@ returns-in-rest-find-fuel c =
     let absent : false ≡ any (isFuel (e .fuel)) (p .fuels) = rw (c .deref-2 .ensures .value) at (c .in-rest-find-fuel .ensures tt .test) in
     ap Err (c .refusal-in-rest-find-fuel .ensures)
     ∙ refused-at (burnChecks p e) 4 past (omega arith)
-      (passed-four p e (c .if-entry-eq0 .left) (c .if-entry-eq0-2 .left) (c .if-entry-gt10000000 .left) unburned (sym stands))
-      (not-from-false _ (sym absent))
+    (passed-four p e (c .if-entry-eq0 .left) (c .if-entry-eq0-2 .left) (c .if-entry-gt10000000 .left) unburned (sym stands))
+    (not-from-false _ (sym absent))
 
 pub returns-then-is-full : need.returns-then-is-full
 returns-then-is-full c =

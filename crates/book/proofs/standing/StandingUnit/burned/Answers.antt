@@ -21,8 +21,8 @@ returns c =
     let bs = c .burns-burn-items .result .now in
     record {
       value =
-        c .loop-burn .inv .0
-        ∙ ap (sumBy burned) (take-all (c .loop-burn .burn-index) bs (c .loop-burn-test .left))
-        ∙ ap (sumBy burned) (c .burns-burn-items .ensures .value);
+          c .loop-burn .inv .0
+          ∙ ap (sumBy burned) (take-all (c .loop-burn .burn-index) bs (c .loop-burn-test .left))
+          ∙ ap (sumBy burned) (c .burns-burn-items .ensures .value);
       bound = omega (arith, c .loop-burn .inv .1, c .loop-burn .kept .burn-index-end, c .burns-burn-items .ensures .few);
     }
