@@ -1,6 +1,6 @@
 -- What an entry or a strike owes, from the life of the book's contents.
 use mathlib.Core.List.{List, [], _∷_, _++_, map, map-append}
-use mathlib.Core.Path.{_≡_, refl, ap, _∙_}
+use mathlib.Core.Path.{_≡_, refl, sym, ap, _∙_}
 use Prim.Native.Nat.{ℕ, suc, _<_, _≤_}
 use lib.ListN.{drop, getD, length, set, take}
 use Rattle.std.specs.Holes.{inserted, removed}
@@ -14,12 +14,13 @@ use Rattle.model.specs.declared.units.BurnEntry.{BurnEntry}
 use Rattle.model.specs.declared.units.Fuel.{Fuel}
 use Rattle.model.specs.declared.units.UnitEntry.{UnitEntry}
 use Rattle.model.specs.Course.{toldCourse}
+use Rattle.model.specs.History.{yearBook}
 use Rattle.model.specs.Plain.{Before, Contents, bookCourse, burnOf, noUnit, verdict}
 use Rattle.model.proofs.Lives as plain
-use Rattle.model.proofs.Lives.{lives-burn, lives-refused, lives-strike, lives-unit, told}
+use Rattle.model.proofs.Lives.{Quiet, lives-burn, lives-quiet, lives-refused, lives-strike, lives-unit, told}
 use Rattle.book.specs.declared.books.Book.{Book}
 use Rattle.book.specs.declared.standing.StandingUnit.{StandingUnit}
-use Rattle.book.specs.Seen.{Entered, Lives, Restarted, seen}
+use Rattle.book.specs.Seen.{Entered, Lives, Restarted, coming, seen}
 use Rattle.book.specs.Standing.{StandsAt, fresh, standing}
 use Rattle.book.proofs.Read.{read-unit}
 
@@ -28,11 +29,11 @@ restarted b e = ap (λ n. toldCourse (bookCourse (drop n (seen b .units)))) e
 
 pub accepting : (v : Event) (b c : Book) → Ok tt ≡ verdict (seen b) v → Lives v b c → c .at ≡ 0 → Entered v b c (Ok tt)
 accepting v b c is lives start =
-    record { answer = is; told = told v (seen b) (Ok tt) is; life = lives; restarted = restarted c start; refusal = tt }
+    record { answer = is; told = told v (seen b) (Ok tt) is; life = lives; changes = record { restarted = restarted c start; refusal = tt } }
 
 pub refusing : (v : Event) (b : Book) (f : BookFault) → Err f ≡ verdict (seen b) v → Entered v b b (Err f)
 refusing v b f is =
-    record { answer = is; told = told v (seen b) (Err f) is; life = lives-refused v (seen b) f is; restarted = tt; refusal = refl }
+    record { answer = is; told = told v (seen b) (Err f) is; life = lives-refused v (seen b) f is; changes = record { restarted = tt; refusal = refl } }
 
 map-inserted : {X Y : Type 0} (f : X → Y) (xs : List X) (i : ℕ) (x : X) → map f (inserted xs i x) ≡ inserted (map f xs) i (f x)
 map-inserted f xs i x = map-append f (take i xs) (x ∷ drop i xs) ∙ rw (take-map f i xs, drop-map f i xs) refl
@@ -60,3 +61,14 @@ burn-entered fs xs i e u w b is at read burn new =
 
 pub unit-struck : (fs : List Fuel) (xs ys : List StandingUnit) (i c : ℕ) → Ok tt ≡ verdict (holds fs xs) (Strike c) → StandsAt c (map standing xs) i → ys ≡ removed xs i → plain.Lives (Strike c) (holds fs xs) (holds fs ys)
 unit-struck fs xs ys i c is at made = lives-strike (holds fs xs) (map standing ys) i c is (at .within) (at .coded) (ap (map standing) made ∙ map-removed standing xs i)
+
+-- ---- what leaves the contents
+
+pub kept-contents : (p q : Contents) → yearBook q ≡ yearBook p → q ≡ p
+kept-contents p q e = cc
+
+pub lives-kept : (v : Event) → Quiet v → (p q : Contents) → yearBook q ≡ yearBook p → plain.Lives v p q
+lives-kept v quiet p q e = rw (kept-contents p q e) (lives-quiet v quiet p)
+
+pub restarted-kept : (b c : Book) → yearBook (seen c) ≡ yearBook (seen b) → coming c ≡ toldCourse (bookCourse (seen b .units)) → Restarted c
+restarted-kept b c e whole = whole ∙ ap (λ (p : Contents). toldCourse (bookCourse (p .units))) (sym (kept-contents (seen b) (seen c) e))

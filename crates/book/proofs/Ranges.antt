@@ -1,8 +1,6 @@
 -- Every unit of the table is in range, by what holds of it alone.
 use mathlib.Core.List.{List, [], _∷_, map}
-use Prim.Native.Nat.{ℕ, _≤_}
-use native.Mathlib.Omega.{arith}
-use lib.ListN.{take}
+use Prim.Native.Nat.{_≤_}
 use Rattle.std.proofs.shelf.Elements.{all-from-getD, all-take}
 use Rattle.model.specs.Units.{InRange, Ranged, listedUnit}
 use Rattle.model.proofs.Emissions.{in-range}

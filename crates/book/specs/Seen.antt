@@ -8,9 +8,10 @@ use Rattle.std.specs.declared.result.Result.{Result}
 use Rattle.book.specs.declared.books.Book.{Book}
 use Rattle.book.specs.Standing.{standing}
 use Rattle.model.specs.declared.events.Event.{Event}
+use Rattle.model.specs.declared.events.Event.the-variants.{EnterBurn, EnterFuel, EnterUnit, Next, Packing, Question, Restart, Strike}
 use Rattle.model.specs.declared.faults.BookFault.{BookFault}
 use Rattle.model.specs.declared.units.PowerUnit.{PowerUnit}
-use Rattle.model.specs.Course.{Course, toldCourse}
+use Rattle.model.specs.Course.{Course, tail, toldCourse}
 use Rattle.model.specs.Plain.{Contents, Shows, after, bookCourse, verdict}
 
 -- The fuels in order of entry and the units newest first.
@@ -37,12 +38,25 @@ coming b = toldCourse (bookCourse (drop (b .at) (seen b .units)))
 abbrev pub Restarted : Book → Type 0
 Restarted b = coming b ≡ toldCourse (bookCourse (seen b .units))
 
+-- Where an entry or a strike is accepted the walk begins again; where it is refused the book is as it stood.
+pub record Changes (b c : Book) (r : Result (Unit {0}) BookFault) : Type 0 where
+  pub restarted : made r (λ _. Restarted c)
+  pub refusal : refused r (λ _. c ≡ b)
+
 -- What the event v answers, and what it makes of the book b.
 pub record Entered (v : Event) (b c : Book) (r : Result (Unit {0}) BookFault) : Type 0 where
   pub answer : r ≡ verdict (seen b) v
   pub told : Told v b r
   pub life : Lives v b c
-  -- where it is accepted the walk begins again
-  pub restarted : made r (λ _. Restarted c)
-  -- where it is refused the book is as it stood
-  pub refusal : refused r (λ _. c ≡ b)
+  pub changes : Changes b c r
+
+-- Where the event v leaves the walk: `next` drops a unit, and all else restarts it, but what is refused changes nothing.
+abbrev pub Walks : Event → Book → Book → Result (Unit {0}) BookFault → Type 0
+Walks (EnterFuel f) b c r = Changes b c r
+Walks (EnterUnit e) b c r = Changes b c r
+Walks (EnterBurn e) b c r = Changes b c r
+Walks (Strike k) b c r = Changes b c r
+Walks Restart b c r = Restarted c
+Walks Next b c r = coming c .units ≡ tail (coming b .units)
+Walks Packing b c r = Restarted c
+Walks Question b c r = Restarted c

@@ -10,6 +10,11 @@ use model::Fuel;
 mod checks;
 mod entries;
 mod lookup;
+mod replays;
+
+pub use replays::replay;
+
+mod views;
 mod walk;
 
 pub use walk::BookRegister;

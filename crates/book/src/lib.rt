@@ -8,3 +8,4 @@ mod books;
 
 pub use books::Book;
 pub use books::BookRegister;
+pub use books::replay;

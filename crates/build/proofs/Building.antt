@@ -15,7 +15,6 @@ use Rattle.model.specs.Cohort.{buildFigure, built, builtUnless, cohortFault, co
 use Rattle.model.specs.Course.{Course, Ending, Limit, faulty, ifFit, proper}
 use Rattle.model.specs.Faults.{newFault}
 use Rattle.model.specs.Fraction.{Frac, ratio}
-use Rattle.model.specs.Methods.{generation}
 use Rattle.model.specs.Rounding.{rounded}
 use Rattle.model.specs.Units.{Listed, Ranged}
 use Rattle.model.specs.declared.answers.BuildMargin.{BuildMargin}
@@ -24,11 +23,13 @@ use Rattle.model.specs.declared.answers.CohortSet.{CohortSet}
 use Rattle.model.specs.declared.faults.BuildFault.{BuildFault}
 use Rattle.model.specs.declared.faults.Fault.{Fault}
 use Rattle.model.specs.declared.faults.Layer.the-variants.{Build}
-use Rattle.model.specs.declared.faults.Rule.the-variants.{NoBuildUnit, NoDefault}
+use Rattle.model.specs.declared.faults.Rule.the-variants.{NoDefault}
 use Rattle.model.proofs.Members.{members-generate}
-use Rattle.build.specs.Members.{cohortOr, firstWithout, meanOf, meanUnless, orCode, sumsOf}
+use Rattle.build.specs.Cohorts.{cohortOr}
+use Rattle.build.specs.Margins.{meanOf, meanUnless}
+use Rattle.build.specs.Members.{firstWithout, orCode, sumsOf}
 use Rattle.build.specs.declared.members.Sums.{Sums}
-use Rattle.build.proofs.Walked.{Fits, fits-is, ok-fits, ok-is, unlessFault}
+use Rattle.build.proofs.Walked.{Fits, fits-is, ok-is, unlessFault}
 
 -- ---- the fault of a cohort is that of its margin
 

@@ -1,8 +1,8 @@
 -- From the runs of a list to its cohort.
-use mathlib.Core.Bool.{Bool, true, false, cond, not, _&&_}
+use mathlib.Core.Bool.{true, false, not, _&&_}
 use mathlib.Core.List.{List, [], _∷_}
 use mathlib.Core.Path.{_≡_, refl, sym, ap, _∙_}
-use Prim.Native.Nat.{ℕ, _+_, _-_, _*_, _≤_, _<_}
+use Prim.Native.Nat.{ℕ, _+_, _-_, _*_, _≤_}
 use native.Mathlib.Omega.{arith}
 use lib.Dec.{eqb, leb}
 use lib.ListN.{length, take}
@@ -13,7 +13,7 @@ use Rattle.std.proofs.shelf.Ways.{tells}
 use Rattle.std.specs.shelf.Lists.{kept-by}
 use Rattle.std.specs.declared.result.Result.{Result}
 use Rattle.std.specs.declared.result.Result.the-variants.{Ok, Err}
-use Rattle.model.specs.Cohort.{backCount, cohortOf, isOld, isUnregistered, joinCount, joining, keptUnits, olds, reaches, registered, registeredCount, sampleCount, sampleRun, target, unregistered, withRegistered, youngs}
+use Rattle.model.specs.Cohort.{cohortOf, isOld, isUnregistered, joinCount, joining, keptUnits, olds, reaches, registered, registeredCount, sampleRun, target, unregistered, withRegistered}
 use Rattle.model.specs.Course.{Course}
 use Rattle.model.specs.Faults.{newFault}
 use Rattle.model.specs.Methods.{generation}
@@ -21,13 +21,12 @@ use Rattle.model.specs.Units.{Listed, told}
 use Rattle.model.specs.declared.answers.Cohort.{Cohort}
 use Rattle.model.specs.declared.answers.CohortSet.the-variants.{Sample, WithRegistered, WithOld}
 use Rattle.model.specs.declared.faults.BuildFault.{BuildFault}
-use Rattle.model.specs.declared.faults.Fault.{Fault}
 use Rattle.model.specs.declared.faults.Layer.the-variants.{Build}
 use Rattle.model.specs.declared.faults.Rule.the-variants.{NoBuildUnit}
 use Rattle.model.proofs.Fronts.{kept-few, kept-twice}
 use Rattle.model.proofs.Joining.{joining-alike, joining-within}
 use Rattle.build.specs.Kinds.{belongs}
-use Rattle.build.specs.Members.{cohortOr}
+use Rattle.build.specs.Cohorts.{cohortOr}
 use Rattle.build.specs.Runs.{metBy, runOf}
 use Rattle.build.specs.declared.kinds.Kind.{Kind}
 use Rattle.build.specs.declared.kinds.Kind.the-variants.{Unregistered, Registered, Old}
@@ -68,46 +67,45 @@ module _ (reference : ℕ) (c : Course Listed) where
   abbrev Answer : Result Cohort BuildFault → Type 0
   Answer r = r ≡ unlessFault c (cohortOr reference us)
 
-  run-is : (q : Quota) (r : Run) → Walked q r → r ≡ runOf reference q us
-  run-is q r h = ok-is (λ f. record { fault = f }) c r (runOf reference q us) h
+  -- the run that was walked for a quota k
+  run-is : (k q : Quota) → q ≡ k → (r : Run) → Walked q r → r ≡ runOf reference k us
+  run-is k q e r h = ok-is (λ f. record { fault = f }) c r (runOf reference q us) h ∙ ap (λ x. runOf reference x us) e
 
   -- so many of the units as join a generation that leaves m missing
-  join-is : (kind : Kind) (g m : ℕ) (r : Run) (pool : List Listed)
-      → Walked (quota kind 0 m) r → m ≡ target us - 5 * g → kept-by (λ u. belongs kind reference (told u)) us ≡ pool
+  join-is : (kind : Kind) (g m : ℕ) (q : Quota) → q ≡ quota kind 0 m → (r : Run) (pool : List Listed)
+      → Walked q r → m ≡ target us - 5 * g → kept-by (λ u. belongs kind reference (told u)) us ≡ pool
       → (r .all .units ≡ joinCount (target us) g pool) × (r .all .generation ≡ generation (take (joinCount (target us) g pool) pool))
-  join-is kind g m r pool h short same =
-      let is = run-is (quota kind 0 m) r h in
+  join-is kind g m q e r pool h short same =
+      let is = run-is (quota kind 0 m) q e r h in
       let count : joining (metBy (quota kind 0 m)) 0 0 pool ≡ joinCount (target us) g pool = rw short (joining-missing (target us) g kind pool) in
       let front : take (joining (metBy (quota kind 0 m)) 0 0 (kept-by (λ u. belongs kind reference (told u)) us)) (kept-by (λ u. belongs kind reference (told u)) us) ≡ take (joinCount (target us) g pool) pool = rw (same, count) in (
         ap (λ (x : Run). x .all .units) is ∙ ap length front ∙ length-take-le _ pool (joining-within (λ n h. reaches (target us) (g + h)) 0 0 pool),
         ap (λ (x : Run). x .all .generation) is ∙ ap generation front,
       )
 
-  module _ (all : Run) (p : Walked (quota Unregistered 4001 0) all) where
+  module _ (q : Quota) (of-all : q ≡ quota Unregistered 4001 0) (all : Run) (p : Walked q all) where
     fits : Fits c
-    fits = ok-fits (λ f. record { fault = f }) c all (runOf reference (quota Unregistered 4001 0) us) p
+    fits = ok-fits (λ f. record { fault = f }) c all (runOf reference q us) p
 
     all-are : (all .all .units ≡ length (unregistered us)) × (all .all .generation ≡ target us)
     all-are =
-        let is = run-is (quota Unregistered 4001 0) all p in
+        let is = run-is (quota Unregistered 4001 0) q of-all all p in
         let count = joining-all (quota Unregistered 4001 0) 0 0 (unregistered us) (omega (arith, fits-few c fits, kept-few isUnregistered us)) in
         let whole : take (joining (metBy (quota Unregistered 4001 0)) 0 0 (unregistered us)) (unregistered us) ≡ unregistered us = rw count (take-all _ (unregistered us) (omega arith)) in
         (ap (λ (x : Run). x .all .units) is ∙ ap length whole, ap (λ (x : Run). x .all .generation) is ∙ ap generation whole)
 
-    pub cohort-none : (f : Fault) → f ≡ newFault NoBuildUnit Build 0 → all .all .units ≡ 0 → Answer (Err (record { fault = f }))
-    cohort-none f new none =
-        ap (λ x. Err (record { fault = x })) new ∙ sym (cond-true _ _ _ (eq-eqb _ _ (sym (all-are .0) ∙ none))) ∙ sym (fits-is c fits (cohortOr reference us))
+    pub cohort-none : (f : BuildFault) → f ≡ record { fault = newFault NoBuildUnit Build 0 } → all .all .units ≡ 0 → Answer (Err f)
+    cohort-none f is none = ap Err is ∙ sym (cond-true _ _ _ (eq-eqb _ _ (sym (all-are .0) ∙ none))) ∙ sym (fits-is c fits (cohortOr reference us))
 
-    module _ (some : all .all .units ≡ 0 → ⊥) (sample : Run) (q : Walked (quota Unregistered 5 (all .all .generation)) sample) where
+    module _ (some : all .all .units ≡ 0 → ⊥) (k : Quota) (of-sample : k ≡ quota Unregistered 5 (all .all .generation)) (sample : Run) (w : Walked k sample) where
       chosen : (x : Cohort) → x ≡ cohortOf reference us → Answer (Ok x)
       chosen x is = ap Ok is ∙ sym (cond-false _ _ _ (ne-eqb _ _ (λ e. some (all-are .0 ∙ e)))) ∙ sym (fits-is c fits (cohortOr reference us))
 
       sample-is : sample ≡ runOf reference (quota Unregistered 5 (target us)) us
-      sample-is = rw (all-are .1) at (run-is (quota Unregistered 5 (all .all .generation)) sample q)
+      sample-is = run-is (quota Unregistered 5 (target us)) k (of-sample ∙ ap (quota Unregistered 5) (all-are .1)) sample w
 
       halves : length (olds reference (sampleRun reference us)) + sample .young .units ≡ sample .all .units
-      halves =
-          rw sample-is (length-kept-by-both (isOld reference) (λ u. not (isOld reference u)) (λ _. refl) (sampleRun reference us))
+      halves = rw sample-is (length-kept-by-both (isOld reference) (λ u. not (isOld reference u)) (λ _. refl) (sampleRun reference us))
 
       kept-number : sample .young .units ≡ length (keptUnits reference us)
       kept-number = ap (λ (x : Run). x .young .units) sample-is
@@ -121,33 +119,35 @@ module _ (reference : ℕ) (c : Course Listed) where
           chosen _ (ap (λ n. record { set = Sample; counts = (n, 0, 0) }) kept-number ∙ sym (cond-true _ _ _ (eq-eqb _ _ none)))
 
       module _ (other : sample .young .units ≡ sample .all .units → ⊥) (m : ℕ) (short : m ≡ all .all .generation - 5 * sample .young .generation)
-          (more : Run) (r : Walked (quota Registered 0 m) more) where
+          (i : Quota) (of-registered : i ≡ quota Registered 0 m) (more : Run) (r : Walked i more) where
         has-old : eqb (length (olds reference (sampleRun reference us))) 0 ≡ false
         has-old = ne-eqb _ _ (λ e. other (omega (arith, halves)))
 
         registered-are : (more .all .units ≡ registeredCount reference us) × (more .all .generation ≡ generation (take (registeredCount reference us) (registered us)))
-        registered-are = join-is Registered (generation (keptUnits reference us)) m more (registered us) r (omega (arith, short, all-are .1, kept-amount)) refl
-
-        still : (n : ℕ) → n ≡ m - 5 * more .all .generation → n ≡ target us - 5 * withRegistered reference us
-        still n e = omega (arith, short, all-are .1, kept-amount, registered-are .1)
+        registered-are =
+            join-is Registered (generation (keptUnits reference us)) m i of-registered more (registered us) r (omega (arith, short, all-are .1, kept-amount)) refl
 
         module _ (n : ℕ) (still-short : n ≡ m - 5 * more .all .generation) where
+          missing : n ≡ target us - 5 * withRegistered reference us
+          missing = omega (arith, short, all-are .1, kept-amount, registered-are .1)
+
           pub cohort-second : n ≡ 0 → Answer (Ok (record { set = WithRegistered; counts = (sample .young .units, more .all .units, 0) }))
           cohort-second none =
-              let enough : reaches (target us) (withRegistered reference us) ≡ true = le-leb _ _ (omega (arith, still n still-short)) in
+              let enough : reaches (target us) (withRegistered reference us) ≡ true = le-leb _ _ (omega (arith, missing)) in
               chosen _
               (ap (λ k. record { set = WithRegistered; counts = (k, more .all .units, 0) }) kept-number
               ∙ ap (λ k. record { set = WithRegistered; counts = (length (keptUnits reference us), k, 0) }) (registered-are .0)
-              ∙ sym (cond-true _ _ _ enough) ∙ sym (cond-false _ _ _ has-old))
+              ∙ sym (cond-true _ _ _ enough)
+              ∙ sym (cond-false _ _ _ has-old))
 
-          pub cohort-third : (n ≡ 0 → ⊥) → (old : Run) → Walked (quota Old 0 n) old
+          pub cohort-third : (n ≡ 0 → ⊥) → (j : Quota) → j ≡ quota Old 0 n → (old : Run) → Walked j old
               → Answer (Ok (record { set = WithOld; counts = (sample .young .units, more .all .units, old .all .units) }))
-          cohort-third below old b =
-              let missing = still n still-short in
+          cohort-third below j of-old old b =
               let less : reaches (target us) (withRegistered reference us) ≡ false = lt-leb _ _ (omega (arith, missing, below)) in
-              let olds-are = join-is Old (withRegistered reference us) n old (olds reference (unregistered us)) b missing (sym (kept-twice (isOld reference) isUnregistered us)) in
+              let olds-are = join-is Old (withRegistered reference us) n j of-old old (olds reference (unregistered us)) b missing (sym (kept-twice (isOld reference) isUnregistered us)) in
               chosen _
               (ap (λ k. record { set = WithOld; counts = (k, more .all .units, old .all .units) }) kept-number
               ∙ ap (λ k. record { set = WithOld; counts = (length (keptUnits reference us), k, old .all .units) }) (registered-are .0)
               ∙ ap (λ k. record { set = WithOld; counts = (length (keptUnits reference us), registeredCount reference us, k) }) (olds-are .0)
-              ∙ sym (cond-false _ _ _ less) ∙ sym (cond-false _ _ _ has-old))
+              ∙ sym (cond-false _ _ _ less)
+              ∙ sym (cond-false _ _ _ has-old))

@@ -1,8 +1,8 @@
 -- What a walk counts is a run: the first units of a kind that are enough, or all of them.
 use mathlib.Core.Bool.{Bool, true, false, cond, not, _&&_}
 use mathlib.Core.List.{List, [], _∷_, map}
-use mathlib.Core.Path.{_≡_, refl, sym, ap, _∙_}
-use Prim.Native.Nat.{ℕ, _+_, _*_, _≤_, _<_}
+use mathlib.Core.Path.{_≡_, refl, ap, _∙_}
+use Prim.Native.Nat.{ℕ, _+_}
 use native.Mathlib.Numerals.{one-add}
 use native.Mathlib.Omega.{arith}
 use lib.ListN.{length, take}
@@ -17,9 +17,9 @@ use Rattle.model.specs.declared.faults.Fault.{Fault}
 use Rattle.model.specs.declared.faults.Layer.the-variants.{Build}
 use Rattle.model.specs.declared.units.PowerUnit.{PowerUnit}
 use Rattle.model.proofs.Joining.{generates-more}
-use Rattle.build.specs.Kinds.{belongs, startedLong}
-use Rattle.build.specs.Runs.{Small, joinStep, metBy, noRun, runOf, runStep, withUnit}
-use Rattle.build.specs.declared.runs.Joining.{Joining}
+use Rattle.build.specs.Kinds.{belongs, longAgo}
+use Rattle.build.specs.Runs.{Small, growStep, metBy, noRun, runOf, runStep, withUnit}
+use Rattle.build.specs.declared.runs.Growing.{Growing}
 use Rattle.build.specs.declared.runs.Quota.{Quota}
 use Rattle.build.specs.declared.runs.Run.{Run}
 use Rattle.build.proofs.Walked.{unlessFault, walk-folds}
@@ -42,9 +42,9 @@ module _ (reference : ℕ) where
   one-young true u r s us p q = (p, q)
   one-young false u r s us p q = (omega arith, omega (arith, generates-more u us))
 
-  ran-more : (r : Run) (u : Listed) (us : List Listed) (s : Run) → Ran reference (withUnit (startedLong reference (told u)) (u .generation) r) us s → Ran reference r (u ∷ us) s
+  ran-more : (r : Run) (u : Listed) (us : List Listed) (s : Run) → Ran reference (withUnit (longAgo reference (told u)) (u .generation) r) us s → Ran reference r (u ∷ us) s
   ran-more r u us s w =
-      let y = one-young (startedLong reference (told u)) u r s (youngs reference us) (w .youngs-number) (w .youngs-amount) in
+      let y = one-young (longAgo reference (told u)) u r s (youngs reference us) (w .youngs-number) (w .youngs-amount) in
       record { number = omega (arith, w .number); amount = omega (arith, w .amount, generates-more u us); youngs-number = y .0; youngs-amount = y .1 }
 
 module _ (reference : ℕ) (q : Quota) where
@@ -66,20 +66,20 @@ module _ (reference : ℕ) (q : Quota) where
       let same : runStep reference q r (told u) ≡ r = rw h (stands (belongs (q .kind) reference (told u))) in
       ap (λ x. counted x us) same ∙ stays us r h
     where
-      stands : (b : Bool) → cond (b && false) (withUnit (startedLong reference (told u)) (u .generation) r) r ≡ r
+      stands : (b : Bool) → cond (b && false) (withUnit (longAgo reference (told u)) (u .generation) r) r ≡ r
       stands true = refl
       stands false = refl
 
   module _ (u : Listed) (us : List Listed) (r : Run) (later : (s : Run) → Ran reference s (joined s (pool us)) (counted s us)) where
     one-in : (e : Bool) → met r ≡ e
         → Ran reference r (take (cond e 0 (1 + joining (metBy q) (r .all .units + 1) (r .all .generation + u .generation) (pool us))) (u ∷ pool us))
-        (counted (cond (not e) (withUnit (startedLong reference (told u)) (u .generation) r) r) us)
+        (counted (cond (not e) (withUnit (longAgo reference (told u)) (u .generation) r) r) us)
     one-in true h = rw (stays us r h) (ran-none reference r)
     one-in false h = rw one-add (ran-more reference r u _ _ (later _))
 
     one : (b : Bool)
         → Ran reference r (joined r (cond b (u ∷ pool us) (pool us)))
-        (counted (cond (b && not (met r)) (withUnit (startedLong reference (told u)) (u .generation) r) r) us)
+        (counted (cond (b && not (met r)) (withUnit (longAgo reference (told u)) (u .generation) r) r) us)
     one true = one-in _ refl
     one false = later r
 
@@ -97,17 +97,17 @@ module _ (reference : ℕ) (q : Quota) where
   pub counts-run : (us : List Listed) → counted noRun us ≡ runOf reference q us
   counts-run us = made-of _ _ (ran us noRun)
 
-  joins : (us : List PowerUnit) (r : Run) → folded joinStep (record { reference = reference; quota = q; run = r }) us .run ≡ folded (runStep reference q) r us
+  joins : (us : List PowerUnit) (r : Run) → folded growStep (record { reference = reference; quota = q; run = r }) us .run ≡ folded (runStep reference q) r us
   joins [] r = refl
   joins (u ∷ us) r = joins us (runStep reference q r u)
 
-  pub walk-counts : {E : Type 0} (wrap : Fault → E) (c : Course Listed) (n : ℕ) (j : Joining)
+  pub walk-counts : {E : Type 0} (wrap : Fault → E) (c : Course Listed) (n : ℕ) (j : Growing)
       → Ok n ≡ ifWalked Build c (Ok (length (c .units))) (λ f. Err (wrap f))
-      → j ≡ folded joinStep (record { reference = reference; quota = q; run = noRun }) (take 4000 (map told (c .units)))
+      → j ≡ folded growStep (record { reference = reference; quota = q; run = noRun }) (take 4000 (map told (c .units)))
       → Small (j .run) n
       → (Ok (j .run) ≡ unlessFault c (Ok (runOf reference q (c .units)))) × Small (j .run) 4000
   walk-counts wrap c n j h s small =
-      let w = walk-folds joinStep _ j (λ (x : Joining). x .run) wrap c n _ h s (joins (map told (c .units)) noRun ∙ counts-run (c .units)) in (
+      let w = walk-folds growStep _ j (λ (x : Growing). x .run) wrap c n _ h s (joins (map told (c .units)) noRun ∙ counts-run (c .units)) in (
         w .0,
         record {
           units = omega (arith, small .units);

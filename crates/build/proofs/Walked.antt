@@ -1,7 +1,7 @@
 -- What one walk over a course answers tells what the others do.
-use mathlib.Core.Bool.{Bool, true, false}
-use mathlib.Core.List.{List, map}
-use mathlib.Core.Path.{_≡_, refl, sym, ap, _∙_}
+use mathlib.Core.Bool.{true}
+use mathlib.Core.List.{map}
+use mathlib.Core.Path.{_≡_, sym, ap, _∙_}
 use Prim.Native.Nat.{ℕ, _≤_}
 use native.Mathlib.Omega.{arith}
 use lib.Dec.{leb}
@@ -11,8 +11,9 @@ use Rattle.std.proofs.shelf.Tests.{leb-true}
 use Rattle.std.specs.Iters.{folded}
 use Rattle.std.specs.declared.result.Result.{Result}
 use Rattle.std.specs.declared.result.Result.the-variants.{Ok, Err}
-use Rattle.model.specs.Course.{Course, Ending, Limit, faulty, ifFit, ifWalked, proper}
+use Rattle.model.specs.Course.{Course, Limit, ifWalked, proper}
 use Rattle.model.specs.Units.{Listed, told}
+use Rattle.model.proofs.Courses.{fit-ok}
 use Rattle.model.specs.declared.faults.BuildFault.{BuildFault}
 use Rattle.model.specs.declared.faults.Fault.{Fault}
 use Rattle.model.specs.declared.faults.Layer.the-variants.{Build}
@@ -27,17 +28,12 @@ pub record Fits (c : Course Listed) : Type 0 where
 abbrev pub unlessFault : {X : Type 0} → Course Listed → Result X BuildFault → Result X BuildFault
 unlessFault c r = ifWalked Build c r (λ f. Err (record { fault = f }))
 
-ok-fit : {X E : Type 0} (wrap : Fault → E) (e : Ending) (b : Bool) (s x : X) → Ok s ≡ ifFit Build e b (Ok x) (λ f. Err (wrap f)) → (s ≡ x) × (e ≡ proper) × (b ≡ true)
-ok-fit wrap proper true s x h = (cc, refl, refl)
-ok-fit wrap proper false s x h = (cc, cc, cc)
-ok-fit wrap (faulty f) b s x h = (cc, cc, cc)
-
 module _ {X E : Type 0} (wrap : Fault → E) (c : Course Listed) (s x : X) (h : Ok s ≡ ifWalked Build c (Ok x) (λ f. Err (wrap f))) where
   pub ok-is : s ≡ x
-  ok-is = ok-fit wrap (c .ending) (leb (length (c .units)) Limit) s x h .0
+  ok-is = fit-ok wrap Build (c .ending) (leb (length (c .units)) Limit) s x h .2
 
   pub ok-fits : Fits c
-  ok-fits = let k = ok-fit wrap (c .ending) (leb (length (c .units)) Limit) s x h in record { ends = k .1; few = k .2 }
+  ok-fits = let k = fit-ok wrap Build (c .ending) (leb (length (c .units)) Limit) s x h in record { ends = k .0; few = k .1 }
 
 module _ (c : Course Listed) (w : Fits c) where
   pub fits-few : length (c .units) ≤ 4000

@@ -1,3 +1,5 @@
 pub mod Kinds
 pub mod Runs
+pub mod Cohorts
 pub mod Members
+pub mod Margins

@@ -1,47 +1,34 @@
 -- The members of a cohort and their sums, as a walk adds them up.
-use mathlib.Core.Bool.{Bool, cond, not, _&&_}
+use mathlib.Core.Bool.{cond, not, _&&_}
 use mathlib.Core.List.{List, [], _∷_}
 use Prim.Native.Nat.{ℕ, _+_, _*_, _≤_}
-use lib.Dec.{eqb}
-use lib.ListN.{length}
 use Rattle.std.specs.Options.{orOther}
 use Rattle.std.specs.shelf.Lists.{sumBy}
 use Rattle.std.specs.declared.option.Option.{Option}
 use Rattle.std.specs.declared.option.Option.the-variants.{Some, None}
-use Rattle.std.specs.declared.result.Result.{Result}
-use Rattle.std.specs.declared.result.Result.the-variants.{Ok, Err}
 use Rattle.model.specs.Classes.{isHome, isRegistered}
-use Rattle.model.specs.Cohort.{Kind, young, joins, back, outside, cohortOf, counted, gramsOr, isThird, less, membersOf, more, unregistered}
-use Rattle.model.specs.Faults.{newFault}
-use Rattle.model.specs.Fraction.{Frac, ratio}
+use Rattle.model.specs.Cohort.{Kind, young, joins, back, outside, counted, gramsOr, isThird, less, membersOf, more}
+use Rattle.model.specs.Fraction.{Frac}
 use Rattle.model.specs.Methods.{generation}
-use Rattle.model.specs.Rounding.{rounded}
 use Rattle.model.specs.Units.{Listed}
 use Rattle.model.specs.declared.answers.Cohort.{Cohort}
 use Rattle.model.specs.declared.answers.CohortSet.{CohortSet}
-use Rattle.model.specs.declared.faults.BuildFault.{BuildFault}
-use Rattle.model.specs.declared.faults.Layer.the-variants.{Build}
-use Rattle.model.specs.declared.faults.Rule.the-variants.{NoBuildUnit, NoDefault}
 use Rattle.model.specs.declared.units.PowerUnit.{PowerUnit}
-use Rattle.build.specs.Kinds.{startedLong}
+use Rattle.build.specs.Kinds.{longAgo}
 use Rattle.build.specs.declared.members.Members.{Members}
 use Rattle.build.specs.declared.members.Sums.{Sums}
-
--- The cohort of a list, unless it has no unregistered home unit.
-abbrev pub cohortOr : ℕ → List Listed → Result Cohort BuildFault
-cohortOr reference us = cond (eqb (length (unregistered us)) 0) (Err (record { fault = newFault NoBuildUnit Build 0 })) (Ok (cohortOf reference us))
 
 -- ---- unit by unit
 
 abbrev pub toldKind : ℕ → PowerUnit → Kind
 toldKind reference u =
-    cond (isRegistered (u .class)) joins (cond (isHome (u .class) && not (isRegistered (u .class))) (cond (startedLong reference u) back young) outside)
+    cond (isRegistered (u .class)) joins (cond (isHome (u .class) && not (isRegistered (u .class))) (cond (longAgo reference u) back young) outside)
 
 abbrev pub oneLess : ℕ × ℕ × ℕ → ℕ → PowerUnit → Option (ℕ × ℕ × ℕ)
 oneLess left reference u = cond (more (toldKind reference u) left) (Some (less (toldKind reference u) left)) None
 
 abbrev pub gramsOf : CohortSet → ℕ → PowerUnit → Option ℕ
-gramsOf set reference u = cond (isThird set && startedLong reference u) (u .«default_grams») (Some (u .grams))
+gramsOf set reference u = cond (isThird set && longAgo reference u) (u .«default_grams») (Some (u .grams))
 
 abbrev pub noSums : Sums
 noSums = record { grams = 0; generation = 0; lacking = None }
@@ -80,11 +67,3 @@ sumsOf reference c us =
       generation = generation (membersOf reference us c);
       lacking = firstWithout (c .set) reference (membersOf reference us c);
     }
-
--- the mean of the sums, unless a member lacks its emission
-abbrev pub meanUnless : Option ℕ → ℕ → ℕ → Result ℕ BuildFault
-meanUnless (Some code) grams g = Err (record { fault = newFault NoDefault Build code })
-meanUnless None grams g = cond (eqb g 0) (Err (record { fault = newFault NoBuildUnit Build 0 })) (Ok (rounded (ratio grams g)))
-
-abbrev pub meanOf : Sums → Result ℕ BuildFault
-meanOf s = meanUnless (s .lacking) (s .grams) (s .generation)

@@ -9,9 +9,8 @@ use Rattle.model.specs.Cohort.{joining, youngs}
 use Rattle.model.specs.Methods.{generation}
 use Rattle.model.specs.Units.{Listed, told}
 use Rattle.model.specs.declared.units.PowerUnit.{PowerUnit}
-use Rattle.build.specs.Kinds.{belongs, startedLong}
-use Rattle.build.specs.declared.kinds.Kind.{Kind}
-use Rattle.build.specs.declared.runs.Joining.{Joining}
+use Rattle.build.specs.Kinds.{belongs, longAgo}
+use Rattle.build.specs.declared.runs.Growing.{Growing}
 use Rattle.build.specs.declared.runs.Quota.{Quota}
 use Rattle.build.specs.declared.runs.Run.{Run}
 use Rattle.build.specs.declared.runs.Tally.{Tally}
@@ -33,10 +32,10 @@ withUnit old g r = record { all = grown g (r .all); young = cond old (r .young) 
 
 abbrev pub runStep : ℕ → Quota → Run → PowerUnit → Run
 runStep reference q r u =
-    cond (belongs (q .kind) reference u && not (metBy q (r .all .units) (r .all .generation))) (withUnit (startedLong reference u) (u .generation) r) r
+    cond (belongs (q .kind) reference u && not (metBy q (r .all .units) (r .all .generation))) (withUnit (longAgo reference u) (u .generation) r) r
 
-abbrev pub joinStep : Joining → PowerUnit → Joining
-joinStep j u = record { reference = j .reference; quota = j .quota; run = runStep (j .reference) (j .quota) (j .run) u }
+abbrev pub growStep : Growing → PowerUnit → Growing
+growStep j u = record { reference = j .reference; quota = j .quota; run = runStep (j .reference) (j .quota) (j .run) u }
 
 -- after n units in range
 pub record Small (r : Run) (n : ℕ) : Type 0 where

@@ -1,11 +1,13 @@
 // The build cohort: the sample run, or what takes its place where units of it are old.
 ghost use mathlib.Core.Path.{_≡_};
 ghost use denote.Ref.{now};
-ghost use Rattle.std.specs.declared.result.Result.the-variants.{Err, Ok};
+ghost use Rattle.std.specs.declared.result.Result.the-variants.{Err};
 ghost use Rattle.model.specs.Course.{ifWalked, toldCourse};
+ghost use Rattle.model.specs.Faults.{newFault};
 ghost use Rattle.model.specs.History.{listed};
 ghost use Rattle.model.specs.declared.faults.Layer.the-variants.{Build};
-ghost use Rattle.build.specs.Members.{cohortOr};
+ghost use Rattle.model.specs.declared.faults.Rule.the-variants.{NoBuildUnit};
+ghost use Rattle.build.specs.Cohorts.{cohortOr};
 use super::kinds::Kind;
 use super::runs::Quota;
 use super::runs::walk_run;
@@ -17,11 +19,13 @@ use model::Layer;
 use model::Rule;
 use register::Register;
 
-// A sample run has at least so many units, or all there are.
-const SAMPLE: u16 = 5;
-
-// More units than a walk takes.
-const ALL: u16 = 4_001;
+pub fn no_build_unit() -> BuildFault
+    ensures { λ r. ⌜ r ≡ record { fault = newFault NoBuildUnit Build 0 } ⌝ }
+{
+    BuildFault {
+        fault: Fault::new(Rule::NoBuildUnit, Layer::Build, 0),
+    }
+}
 
 // The cohort of the register's list. It leaves the register restarted.
 pub fn cohort<R: Register>(register: &mut R, reference: u32) -> Result<Cohort, BuildFault>
@@ -29,29 +33,11 @@ pub fn cohort<R: Register>(register: &mut R, reference: u32) -> Result<Cohort, B
     ensures restarted { λ _. ⌜ R·Register .coming (now (register .exit)) ≡ toldCourse (listed (R·Register .contents (now (register .entry)))) ⌝ }
     ensures answer { λ r. ⌜ r ≡ ifWalked Build (listed (R·Register .contents (now (register .entry)))) (cohortOr reference (listed (R·Register .contents (now (register .entry))) .units)) (λ f. Err (record { fault = f })) ⌝ }
 {
-    let all = walk_run(
-        register,
-        reference,
-        Quota {
-            kind: Kind::Unregistered,
-            least: ALL,
-            missing: 0,
-        },
-    )?.all;
+    let all = walk_run(register, reference, Quota::all())?.all;
     if all.units == 0 {
-        return Err(BuildFault {
-            fault: Fault::new(Rule::NoBuildUnit, Layer::Build, 0),
-        });
+        return Err(no_build_unit());
     }
-    let sample = walk_run(
-        register,
-        reference,
-        Quota {
-            kind: Kind::Unregistered,
-            least: SAMPLE,
-            missing: all.generation,
-        },
-    )?;
+    let sample = walk_run(register, reference, Quota::sample(all.generation))?;
     let kept = sample.young;
     if kept.units == sample.all.units {
         return Ok(Cohort {
@@ -59,15 +45,12 @@ pub fn cohort<R: Register>(register: &mut R, reference: u32) -> Result<Cohort, B
             counts: (kept.units, 0, 0),
         });
     }
+    // What is missing to a fifth of all generation, five times.
     let missing = all.generation.saturating_sub(5 * kept.generation);
     let registered = walk_run(
         register,
         reference,
-        Quota {
-            kind: Kind::Registered,
-            least: 0,
-            missing,
-        },
+        Quota::joining(Kind::Registered, missing),
     )?.all;
     let still_missing = missing.saturating_sub(5 * registered.generation);
     if still_missing == 0 {
@@ -79,11 +62,7 @@ pub fn cohort<R: Register>(register: &mut R, reference: u32) -> Result<Cohort, B
     let back = walk_run(
         register,
         reference,
-        Quota {
-            kind: Kind::Old,
-            least: 0,
-            missing: still_missing,
-        },
+        Quota::joining(Kind::Old, still_missing),
     )?.all;
     Ok(Cohort {
         set: CohortSet::WithOld,

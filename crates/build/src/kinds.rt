@@ -1,6 +1,6 @@
 // The kinds of units that a run is made of.
 ghost use mathlib.Core.Path.{_≡_};
-ghost use Rattle.build.specs.Kinds.{belongs, startedLong};
+ghost use Rattle.build.specs.Kinds.{belongs, longAgo};
 use model::PowerUnit;
 
 // Ten years, as days are written.
@@ -16,10 +16,11 @@ pub enum Kind {
     Old,
 }
 
-// More than ten years older than the reference day. The sum may pass 32 bits.
+// The unit started more than ten years before the reference day.
 pub fn is_old(reference: u32, unit: &PowerUnit) -> bool
-    ensures { λ r. ⌜ r ≡ startedLong reference (now (unit .entry)) ⌝ }
+    ensures { λ r. ⌜ r ≡ longAgo reference (now (unit .entry)) ⌝ }
 {
+    // A day may be any number of 32 bits, and the sum more.
     u64::from(unit.day) + TEN_YEARS < u64::from(reference)
 }
 

@@ -7,3 +7,8 @@ mod members;
 mod runs;
 
 pub use margins::build_margin;
+
+mod facts;
+
+pub use facts::build_is_near;
+pub use facts::cohort_in_words;

@@ -5,8 +5,9 @@ ghost use denote.Ref.{now};
 ghost use Rattle.model.specs.Cohort.{built};
 ghost use Rattle.model.specs.Course.{toldCourse};
 ghost use Rattle.model.specs.History.{listed};
-ghost use Rattle.build.specs.Members.{meanOf};
+ghost use Rattle.build.specs.Margins.{meanOf};
 use super::cohorts::cohort;
+use super::cohorts::no_build_unit;
 use super::members::Sums;
 use super::members::walk_members;
 use model::BuildFault;
@@ -18,7 +19,7 @@ use model::Ratio;
 use model::Rule;
 use register::Register;
 
-// In g/MWh, unless a member lacks the emission that it counts.
+// In g/MWh, unless a member has no emission to count.
 fn mean(sums: Sums) -> Result<u32, BuildFault>
     requires { ⌜ sums .grams ≤ 10000000 * sums .generation ⌝ }
     ensures { λ r. ⌜ r ≡ meanOf sums ⌝ }
@@ -28,16 +29,14 @@ fn mean(sums: Sums) -> Result<u32, BuildFault>
             fault: Fault::new(Rule::NoDefault, Layer::Build, u32::from(code)),
         });
     }
-    // A cohort without members would be one without build units.
+    // A cohort has members: this refuses none.
     let Some(ratio) = Ratio::new(sums.grams, sums.generation) else {
-        return Err(BuildFault {
-            fault: Fault::new(Rule::NoBuildUnit, Layer::Build, 0),
-        });
+        return Err(no_build_unit());
     };
     Ok(ratio.rounded() as u32)
 }
 
-// The build margin of the register's list on the reference day, with its cohort. It leaves the register restarted.
+// The build margin of the register's list at the reference day, and the cohort that it is of. It leaves the register restarted.
 pub fn build_margin<R: Register>(
     register: &mut R,
     reference: Day,

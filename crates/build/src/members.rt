@@ -1,15 +1,14 @@
 // The members of a cohort, and what they add up to.
-ghost use mathlib.Core.Bool.{cond};
 ghost use mathlib.Core.Path.{_≡_};
-ghost use Prim.Native.Nat.{ℕ, _+_, _*_, _<_, _≤_};
+ghost use Prim.Native.Nat.{_≤_};
 ghost use denote.Ref.{now};
 ghost use Rattle.std.specs.Vec.{made};
 ghost use Rattle.std.specs.declared.result.Result.the-variants.{Err, Ok};
 ghost use Rattle.model.specs.Course.{ifWalked, toldCourse};
 ghost use Rattle.model.specs.History.{listed};
 ghost use Rattle.model.specs.declared.faults.Layer.the-variants.{Build};
-ghost use Rattle.build.specs.Members.{Roomy, gramsOf, memberStep, noSums, oneLess, sumsOf, withMember};
 ghost use Rattle.register.specs.Folds.{AtMost};
+ghost use Rattle.build.specs.Members.{Roomy, gramsOf, memberStep, noSums, oneLess, sumsOf, withMember};
 use super::kinds::is_old;
 use super::kinds::is_unregistered;
 use model::BuildFault;
@@ -31,13 +30,14 @@ pub struct Sums {
     pub lacking: Option<u16>,
 }
 
-// The members of a cohort while they are walked: how many of each kind are left to take, and the sums so far.
+// The members of a cohort while they are walked.
 #[derive(Clone, Copy)]
-pub struct Members {
-    pub reference: u32,
-    pub cohort: Cohort,
-    pub left: (u16, u16, u16),
-    pub sums: Sums,
+struct Members {
+    reference: u32,
+    cohort: Cohort,
+    // How many of each kind are still to be taken, in the order of the cohort's counts.
+    left: (u16, u16, u16),
+    sums: Sums,
 }
 
 impl Sums {
@@ -72,7 +72,7 @@ impl Sums {
     }
 }
 
-// What a member counts: in the third set an old unit its default, every other its emission.
+// What a member counts: in the third set an old unit its default grams, if it has them, and every other its grams.
 fn grams_of(set: CohortSet, reference: u32, unit: &PowerUnit) -> Option<u64>
     ensures { λ r. ⌜ r ≡ gramsOf set reference (now (unit .entry)) ⌝ }
 {
@@ -82,7 +82,7 @@ fn grams_of(set: CohortSet, reference: u32, unit: &PowerUnit) -> Option<u64>
     }
 }
 
-// What is left to take of each kind after this unit, if it is one to take.
+// What is left of each kind once the unit is taken, or none where it is not one to take.
 fn one_less(left: (u16, u16, u16), reference: u32, unit: &PowerUnit) -> Option<(u16, u16, u16)>
     ensures { λ r. ⌜ r ≡ oneLess left reference (now (unit .entry)) ⌝ }
 {
@@ -136,6 +136,6 @@ pub fn walk_members<R: Register>(
         left: cohort.counts,
         sums: Sums::none(),
     };
-    let _units = walk(register, Layer::Build, &mut members)?;
+    let _ = walk(register, Layer::Build, &mut members)?;
     Ok(members.sums)
 }

@@ -1,14 +1,13 @@
 // Runs: units of one kind that join in the register's order, until there are enough.
-ghost use mathlib.Core.Bool.{Bool};
 ghost use mathlib.Core.Path.{_≡_};
-ghost use Prim.Native.Nat.{ℕ, _+_, _<_, _≤_};
+ghost use Prim.Native.Nat.{_+_, _<_, _≤_};
 ghost use denote.Ref.{now};
 ghost use Rattle.std.specs.Vec.{made};
 ghost use Rattle.std.specs.declared.result.Result.the-variants.{Err, Ok};
 ghost use Rattle.model.specs.Course.{ifWalked, toldCourse};
 ghost use Rattle.model.specs.History.{listed};
 ghost use Rattle.model.specs.declared.faults.Layer.the-variants.{Build};
-ghost use Rattle.build.specs.Runs.{Small, grown, joinStep, metBy, noRun, runOf, withUnit};
+ghost use Rattle.build.specs.Runs.{Small, growStep, grown, metBy, noRun, runOf, withUnit};
 use super::kinds::Kind;
 use super::kinds::is_old;
 use model::BuildFault;
@@ -18,6 +17,12 @@ use model::PowerUnit;
 use register::Fold;
 use register::Register;
 use register::walk;
+
+// More units than a walk takes.
+const ALL: u16 = 4_001;
+
+// A sample run has at least so many units, or all there are.
+const SAMPLE: u16 = 5;
 
 #[derive(Clone, Copy)]
 pub struct Tally {
@@ -33,20 +38,20 @@ pub struct Run {
     pub young: Tally,
 }
 
-// Enough are at least so many units of a kind, with five times their generation no longer short of `missing`.
+// Which units join, and how long: until there are at least so many, and five times their generation is no longer below `missing`.
 #[derive(Clone, Copy)]
 pub struct Quota {
-    pub kind: Kind,
-    pub least: u16,
-    pub missing: u64,
+    kind: Kind,
+    least: u16,
+    missing: u64,
 }
 
 // A run while it is walked.
 #[derive(Clone, Copy)]
-pub struct Joining {
-    pub reference: u32,
-    pub quota: Quota,
-    pub run: Run,
+struct Growing {
+    reference: u32,
+    quota: Quota,
+    run: Run,
 }
 
 impl Tally {
@@ -58,15 +63,6 @@ impl Tally {
             units: self.units + 1,
             generation: self.generation + u64::from(generation),
         }
-    }
-}
-
-impl Quota {
-    fn met_by(self, tally: Tally) -> bool
-        requires { ⌜ tally .generation ≤ 400000000000 ⌝ }
-        ensures { λ r. ⌜ r ≡ metBy self (tally .units) (tally .generation) ⌝ }
-    {
-        tally.units >= self.least && 5 * tally.generation >= self.missing
     }
 }
 
@@ -99,10 +95,52 @@ impl Run {
     }
 }
 
-impl Fold for Joining as JoiningFold {
+impl Quota {
+    // Every unregistered home unit.
+    pub fn all() -> Quota
+        ensures { λ r. ⌜ r ≡ record { kind = Kind.Unregistered; least = 4001; missing = 0 } ⌝ }
+    {
+        Quota {
+            kind: Kind::Unregistered,
+            least: ALL,
+            missing: 0,
+        }
+    }
+
+    // The sample run, where the unregistered home units generate so much.
+    pub fn sample(target: u64) -> Quota
+        ensures { λ r. ⌜ r ≡ record { kind = Kind.Unregistered; least = 5; missing = target } ⌝ }
+    {
+        Quota {
+            kind: Kind::Unregistered,
+            least: SAMPLE,
+            missing: target,
+        }
+    }
+
+    // Units that join while something is missing.
+    pub fn joining(kind: Kind, missing: u64) -> Quota
+        ensures { λ r. ⌜ r ≡ record { kind = kind; least = 0; missing = missing } ⌝ }
+    {
+        Quota {
+            kind,
+            least: 0,
+            missing,
+        }
+    }
+
+    fn met_by(self, tally: Tally) -> bool
+        requires { ⌜ tally .generation ≤ 400000000000 ⌝ }
+        ensures { λ r. ⌜ r ≡ metBy self (tally .units) (tally .generation) ⌝ }
+    {
+        tally.units >= self.least && 5 * tally.generation >= self.missing
+    }
+}
+
+impl Fold for Growing as GrowingFold {
     ghost cleared = { λ j. record { reference = j .reference; quota = j .quota; run = noRun } };
 
-    ghost step = { joinStep };
+    ghost step = { growStep };
 
     ghost fits = { λ j n. Small (j .run) n };
 
@@ -117,7 +155,7 @@ impl Fold for Joining as JoiningFold {
     }
 }
 
-// The run that meets the quota, or all units of its kind. It leaves the register restarted.
+// The first units that meet the quota, or all of its kind. It leaves the register restarted.
 pub fn walk_run<R: Register>(
     register: &mut R,
     reference: u32,
@@ -128,11 +166,11 @@ pub fn walk_run<R: Register>(
     ensures small { λ r. ⌜ made r (λ s. Small s 4000) ⌝ }
     ensures answer { λ r. ⌜ r ≡ ifWalked Build (listed (R·Register .contents (now (register .entry)))) (Ok (runOf reference quota (listed (R·Register .contents (now (register .entry))) .units))) (λ f. Err (record { fault = f })) ⌝ }
 {
-    let mut joining = Joining {
+    let mut growing = Growing {
         reference,
         quota,
         run: Run::none(),
     };
-    let _units = walk(register, Layer::Build, &mut joining)?;
-    Ok(joining.run)
+    let _ = walk(register, Layer::Build, &mut growing)?;
+    Ok(growing.run)
 }

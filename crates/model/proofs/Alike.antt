@@ -1,14 +1,12 @@
 -- A test for equal units that stand: their entries and their burns agree.
-use mathlib.Core.Bool.{Bool, true, false, cond, _&&_}
+use mathlib.Core.Bool.{Bool, true, false, _&&_}
 use mathlib.Core.List.{List, [], _∷_}
-use mathlib.Core.Path.{_≡_, refl, ap}
-use Prim.Native.Nat.{ℕ}
+use mathlib.Core.Path.{_≡_, refl}
 use native.Mathlib.Omega.{arith}
 use lib.Dec.{eqb}
-use Rattle.std.proofs.shelf.Tests.{and-from, and-parts, eq-eqb, eqb-true}
+use Rattle.std.proofs.shelf.Tests.{and-from, and-parts}
 use Rattle.std.proofs.shelf.Ways.{tells}
 use Rattle.model.specs.declared.units.Burn.{Burn}
-use Rattle.model.specs.declared.units.Fuel.{Fuel}
 use Rattle.model.specs.declared.units.UnitEntry.{UnitEntry}
 use Rattle.model.specs.Units.{Standing}
 use Rattle.model.proofs.Rearranged.{Tells}

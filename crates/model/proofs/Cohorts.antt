@@ -1,13 +1,13 @@
 -- What is computed is the cohort in words, and there is no other.
-use mathlib.Core.Bool.{Bool, true, false, cond}
+use mathlib.Core.Bool.{true, false}
 use mathlib.Core.List.{List}
 use mathlib.Core.Path.{_≡_, refl, sym, ap, subst, _∙_}
-use Prim.Native.Nat.{ℕ, _+_, _*_, _≤_, _<_}
+use Prim.Native.Nat.{ℕ, _<_}
 use native.Mathlib.Omega.{arith}
 use lib.Dec.{eqb}
-use lib.ListN.{length, take}
+use lib.ListN.{length}
 use Rattle.std.proofs.shelf.Tests.{cond-both, cond-false, cond-true, eq-eqb, eqb-false, eqb-true, le-leb, leb-false, leb-true, lt-leb, ne-eqb}
-use Rattle.model.specs.Cohort.{ComputedIsCohort, First, InSet, IsCohort, Joined, OneCohort, SampleRun, Second, Third, backCount, cohortOf, joinCount, keptUnits, olds, reaches, registered, registeredCount, sampleCount, sampleRun, target, unregistered, withRegistered}
+use Rattle.model.specs.Cohort.{ComputedIsCohort, InSet, IsCohort, Joined, OneCohort, backCount, cohortOf, keptUnits, olds, reaches, registered, registeredCount, sampleCount, sampleRun, target, withRegistered}
 use Rattle.model.specs.Methods.{generation}
 use Rattle.model.specs.Units.{Listed}
 use Rattle.model.specs.declared.answers.Cohort.{Cohort}

@@ -1,23 +1,22 @@
 -- A unit in range emits at most 10,000,000 g for each MWh.
-use mathlib.Core.Bool.{Bool, true, false, cond, _&&_, _||_}
+use mathlib.Core.Bool.{true}
 use mathlib.Core.List.{List, [], _∷_}
 use mathlib.Core.Logic.{inl, inr}
-use mathlib.Core.Path.{_≡_, refl, sym, ap}
-use Prim.Native.Nat.{ℕ, min, _+_, _*_, _<_, _≤_}
-use native.Mathlib.Nat.{mul-le-mul-left, mul-le-mul-right}
+use mathlib.Core.Path.{_≡_}
+use Prim.Native.Nat.{ℕ, _*_, _≤_}
+use native.Mathlib.Nat.{mul-le-mul-left}
 use native.Mathlib.Omega.{arith}
-use lib.Dec.{eqb, leb}
+use lib.Dec.{eqb}
 use Rattle.std.specs.Options.{valueOr}
 use Rattle.std.specs.shelf.Lists.{All, sumBy}
-use Rattle.std.proofs.shelf.Tests.{cases-bool, eqb-true, eqb-false}
+use Rattle.std.proofs.shelf.Tests.{cases-bool, eqb-true}
 use Rattle.std.proofs.shelf.Ways.{tells}
 use Rattle.model.specs.declared.classes.Class.the-variants.{Import}
 use Rattle.model.specs.declared.units.Burn.{Burn}
 use Rattle.model.specs.Calendar.{isDay}
 use Rattle.model.specs.Classes.{isHome, numberedClass}
-use Rattle.model.specs.Fraction.{Frac, ratio}
 use Rattle.model.specs.Plain.{efficiencyInRange, unitInRange}
-use Rattle.model.specs.Units.{Emits, EmitsOption, InRange, Standing, burned, byEfficiency, byFuel, defaultBy, defaultEmission, emission, listedUnit, lowest}
+use Rattle.model.specs.Units.{Emits, EmitsOption, InRange, Standing, burned, byEfficiency, defaultBy, emission, listedUnit, lowest}
 
 -- What a unit's ranges come to; the burns of a unit without an efficiency are capped by their own check.
 pub record Bounded (u : Standing) : Type 0 where
@@ -31,15 +30,15 @@ pub record Bounded (u : Standing) : Type 0 where
 home : (n : ℕ) → n ≤ 3 → isHome (valueOr (numberedClass n) Import) ≡ true
 home n h = grind (arith, tells)
 
-lowest-le : (b : Burn) (bs : List Burn) → All (λ d. d .fuel .«carbon_factor» ≤ 320000) (b ∷ bs) → lowest b bs ≤ 320000
-lowest-le b [] a = a .0
-lowest-le b (d ∷ bs) a = let h = a .0 in omega arith
+pub lowest-le : (b : Burn) (bs : List Burn) → b .fuel .«carbon_factor» ≤ 320000 → lowest b bs ≤ 320000
+lowest-le b [] h = h
+lowest-le b (d ∷ bs) h = omega arith
 
 -- the lowest efficiency, 116, keeps the highest carbon factor below the limit
 emits-efficiency : (g e : ℕ) (bs : List Burn) → 116 ≤ e → All (λ b. b .fuel .«carbon_factor» ≤ 320000) bs → Emits g (byEfficiency g e bs)
 emits-efficiency g e [] h a = record { real = omega arith; cap = omega arith }
 emits-efficiency g e (b ∷ bs) h a =
-    let l = mul-le-mul-left g (lowest-le b bs a) in
+    let l = mul-le-mul-left g (lowest-le b bs (a .0)) in
     let k = mul-le-mul-left g h in
     record { real = omega arith; cap = omega (arith, l, k) }
 

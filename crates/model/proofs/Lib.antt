@@ -8,8 +8,11 @@ pub mod Firsts
 pub mod Fronts
 pub mod Histories
 pub mod Joining
+pub mod Lasting
 pub mod Lives
 pub mod Members
+pub mod Merging
+pub mod Nearness
 pub mod Orders
 pub mod Rearranged
 pub mod Rounding

@@ -1,19 +1,17 @@
 -- A year book's contents beside the plain book's, event after event.
-use mathlib.Core.Bool.{Bool, true, false, cond, not}
+use mathlib.Core.Bool.{Bool, true, cond, not}
 use mathlib.Core.List.{List, [], _∷_, _++_, map}
 use mathlib.Core.Logic.{inl, inr, ∥∥₁-map}
-use mathlib.Core.Path.{_≡_, refl, sym, ap, subst, _∙_}
-use Prim.Native.Nat.{ℕ, _+_, _<_, _≤_}
+use mathlib.Core.Path.{_≡_, refl, sym, ap, _∙_}
+use Prim.Native.Nat.{ℕ, _<_, _≤_}
 use native.Mathlib.Omega.{arith}
-use lib.Dec.{eqb}
 use lib.ListN.{length, getD, set}
 use Rattle.std.specs.Holes.{inserted, removed}
 use Rattle.std.specs.Iters.{folded}
 use Rattle.std.specs.Results.{isOk}
-use Rattle.std.specs.shelf.Lists.{All, sumBy, countBy, kept-by}
+use Rattle.std.specs.shelf.Lists.{countBy}
 use Rattle.std.specs.declared.result.Result.{Result}
 use Rattle.std.specs.declared.result.Result.the-variants.{Ok, Err}
-use Rattle.std.proofs.shelf.Elements.{all-push}
 use Rattle.std.proofs.shelf.Filters.{sumBy-kept-by-both}
 use Rattle.std.proofs.shelf.Sorted.{shuffled-refl}
 use Rattle.std.proofs.shelf.Sums.{sumBy-push, folded-push}
@@ -22,17 +20,16 @@ use Rattle.std.proofs.shelf.Ways.{tells}
 use Rattle.model.specs.declared.events.Event.{Event}
 use Rattle.model.specs.declared.events.Event.the-variants.{EnterFuel, EnterUnit, EnterBurn, Strike, Restart, Next, Packing, Question}
 use Rattle.model.specs.declared.faults.BookFault.{BookFault}
-use Rattle.model.specs.declared.units.Burn.{Burn}
 use Rattle.model.specs.declared.units.BurnEntry.{BurnEntry}
 use Rattle.model.specs.declared.units.Fuel.{Fuel}
 use Rattle.model.specs.declared.units.UnitEntry.{UnitEntry}
-use Rattle.model.specs.Plain.{Before, Contents, Ordered, Reached, Shows, after, burnOf, changed, empty, first, fuelInRange, isUnit, noUnit, step, unitOf, verdict, withBurn}
+use Rattle.model.specs.Plain.{Before, Contents, Ordered, Reached, Shows, after, burnOf, changed, empty, isUnit, noUnit, step, unitOf, verdict, withBurn}
 use Rattle.model.specs.Units.{Standing}
 use Rattle.model.proofs.Alike.{tells-units}
 use Rattle.model.proofs.Firsts.{count-cons, first-same}
 use Rattle.model.proofs.Orders.{burn-keeps, burned-set, kept-removed, one-order, ordered-inserted, ordered-kept, ordered-map}
-use Rattle.model.proofs.Verdicts.{passed-unit}
-use Rattle.model.proofs.Rearranged.{Same, length-same, same-from-shuffled, same-inserted, same-kept, same-map, same-push, shuffled-from-same, sum-map}
+use Rattle.model.proofs.Verdicts.{ok-accepted, passed-unit}
+use Rattle.model.proofs.Rearranged.{Same, length-same, same-from-shuffled, same-inserted, same-kept, same-map, same-push, shuffled-from-same}
 
 -- With the event v the contents p become q, whatever journal led to p.
 abbrev pub Lives : Event → Contents → Contents → Type 0
@@ -157,27 +154,38 @@ told v p r is es a = is ∙ sym (verdict-like (after es) p v (like es p a))
 pub lives-refused : (v : Event) (p : Contents) (f : BookFault) → Err f ≡ verdict p v → Lives v p p
 lives-refused v p f is = carry v p p (λ _ o. rw (sym is) record { fuels = refl; units = λ w. refl; ordered = o })
 
--- nor do these
-pub lives-restart : (p : Contents) → Lives Restart p p
-lives-restart p = carry Restart p p (λ _ o. record { fuels = refl; units = λ w. refl; ordered = o })
+-- An event that is never refused and changes nothing.
+pub record Quiet (v : Event) : Type 0 where
+  pub accepted : (p : Contents) → Ok tt ≡ verdict p v
+  pub kept : (p : Contents) → changed p v ≡ p
 
-pub lives-next : (p : Contents) → Lives Next p p
-lives-next p = carry Next p p (λ _ o. record { fuels = refl; units = λ w. refl; ordered = o })
+pub quiet-restart : Quiet Restart
+quiet-restart = record { accepted = λ _. refl; kept = λ _. refl }
 
-pub lives-packing : (p : Contents) → Lives Packing p p
-lives-packing p = carry Packing p p (λ _ o. record { fuels = refl; units = λ w. refl; ordered = o })
+pub quiet-next : Quiet Next
+quiet-next = record { accepted = λ _. refl; kept = λ _. refl }
 
-pub lives-question : (p : Contents) → Lives Question p p
-lives-question p = carry Question p p (λ _ o. record { fuels = refl; units = λ w. refl; ordered = o })
+pub quiet-packing : Quiet Packing
+quiet-packing = record { accepted = λ _. refl; kept = λ _. refl }
 
-pub lives-fuel : (p q : Contents) (f : Fuel) → Ok tt ≡ verdict p (EnterFuel f) → q ≡ changed p (EnterFuel f) → Lives (EnterFuel f) p q
-lives-fuel p q f is made = rw made (carry (EnterFuel f) p (changed p (EnterFuel f)) (λ _ o. rw (ap isOk (sym is)) record { fuels = refl; units = λ w. refl; ordered = o }))
+pub quiet-question : Quiet Question
+quiet-question = record { accepted = λ _. refl; kept = λ _. refl }
+
+pub lives-quiet : (v : Event) → Quiet v → (p : Contents) → Lives v p p
+lives-quiet v quiet p =
+    carry v p p
+    (λ _ o. rw (ok-accepted (verdict p v) (quiet .accepted p), quiet .kept p) record { fuels = refl; units = λ w. refl; ordered = o })
+
+pub lives-fuel : (p : Contents) (fs : List Fuel) (f : Fuel) → Ok tt ≡ verdict p (EnterFuel f) → fs ≡ p .fuels ++ f ∷ [] → Lives (EnterFuel f) p (record { fuels = fs; units = p .units })
+lives-fuel p fs f is made =
+    carry (EnterFuel f) p (record { fuels = fs; units = p .units })
+    (λ _ o. rw (ok-accepted (verdict p (EnterFuel f)) is) record { fuels = sym made; units = λ w. refl; ordered = o })
 
 -- the unit goes to the first place that is not newer
 pub lives-unit : (p : Contents) (us : List Standing) (i : ℕ) (e : UnitEntry) → Ok tt ≡ verdict p (EnterUnit e) → us ≡ inserted (p .units) i (record { entry = e; burns = [] }) → ((k : ℕ) → k < i → Before (getD (p .units) k noUnit) (record { entry = e; burns = [] })) → (i < length (p .units) → Before (getD (p .units) i noUnit) (record { entry = e; burns = [] }) → ⊥) → i ≤ length (p .units) → Lives (EnterUnit e) p (record { fuels = p .fuels; units = us })
 lives-unit p us i e is made newer stops le =
     let u : Standing = record { entry = e; burns = [] } in
-    let ok : isOk (verdict p (EnterUnit e)) ≡ true = ap isOk (sym is) in
+    let ok = ok-accepted (verdict p (EnterUnit e)) is in
     rw made
     (carry (EnterUnit e) p (record { fuels = p .fuels; units = inserted (p .units) i u })
     (λ _ o. rw ok record { fuels = refl; units = same-inserted (p .units) i u; ordered = ordered-inserted (p .units) i u o newer stops le (passed-unit p e ok .apart) }))
@@ -186,7 +194,7 @@ lives-unit p us i e is made newer stops le =
 pub lives-burn : (p : Contents) (us : List Standing) (i : ℕ) (e : BurnEntry) → Ok tt ≡ verdict p (EnterBurn e) → i < length (p .units) → isUnit (e .unit) (getD (p .units) i noUnit) ≡ true → us ≡ set (p .units) i (record { entry = getD (p .units) i noUnit .entry; burns = getD (p .units) i noUnit .burns ++ burnOf p e ∷ [] }) → Lives (EnterBurn e) p (record { fuels = p .fuels; units = us })
 lives-burn p us i e is l at made =
     let b = burnOf p e in
-    let ok : isOk (verdict p (EnterBurn e)) ≡ true = ap isOk (sym is) in
+    let ok = ok-accepted (verdict p (EnterBurn e)) is in
     carry (EnterBurn e) p (record { fuels = p .fuels; units = us })
     (λ apart o.
     let k = made ∙ sym (burned-set (e .unit) b (p .units) i l at (apart (e .unit))) in
@@ -195,7 +203,7 @@ lives-burn p us i e is l at made =
 -- the one unit of the code goes
 pub lives-strike : (p : Contents) (us : List Standing) (i c : ℕ) → Ok tt ≡ verdict p (Strike c) → i < length (p .units) → isUnit c (getD (p .units) i noUnit) ≡ true → us ≡ removed (p .units) i → Lives (Strike c) p (record { fuels = p .fuels; units = us })
 lives-strike p us i c is l at made =
-    let ok : isOk (verdict p (Strike c)) ≡ true = ap isOk (sym is) in
+    let ok = ok-accepted (verdict p (Strike c)) is in
     carry (Strike c) p (record { fuels = p .fuels; units = us })
     (λ apart o.
     let k = made ∙ sym (kept-removed c (p .units) i l at (apart c)) in

@@ -2,8 +2,8 @@
 use mathlib.Core.Bool.{Bool, true, false, cond, not, _&&_}
 use mathlib.Core.List.{List, [], _∷_, _++_}
 use mathlib.Core.Logic.{inl, inr}
-use mathlib.Core.Path.{_≡_, refl, sym, ap, subst, _∙_}
-use Prim.Native.Nat.{ℕ, _+_, _*_, _≤_, _<_, min}
+use mathlib.Core.Path.{_≡_, refl, sym, ap, _∙_}
+use Prim.Native.Nat.{ℕ, _+_, _≤_, _<_}
 use native.Mathlib.Omega.{arith}
 use lib.ListN.{length, take}
 use lib.Seq.{take-nil}
@@ -12,11 +12,11 @@ use Rattle.std.proofs.shelf.Filters.{length-kept-by-both}
 use Rattle.std.proofs.shelf.Lists.{append-assoc, length-take, length-take-le}
 use Rattle.std.proofs.shelf.Sorted.{all-shuffled, shuffled-cons, shuffled-refl, shuffled-trans, sumBy-shuffled}
 use Rattle.std.proofs.shelf.Sums.{sumBy-append}
-use Rattle.std.proofs.shelf.Tests.{cases-lt, cond-both, le-ltb, lt-ltb}
+use Rattle.std.proofs.shelf.Tests.{cases-lt, le-ltb, lt-ltb}
 use Rattle.std.specs.Slices.{Shuffled}
-use Rattle.std.specs.shelf.Lists.{All, kept-by}
+use Rattle.std.specs.shelf.Lists.{kept-by}
 use Rattle.model.specs.Classes.{isHome, isRegistered}
-use Rattle.model.specs.Cohort.{First, InSet, IsCohort, Kind, MembersAre, Second, Third, back, cohortOf, isOld, isUnregistered, joins, keptUnits, kindOf, less, members, membersOf, more, olds, outside, registered, sampleCount, sampleRun, target, unregistered, young, youngs}
+use Rattle.model.specs.Cohort.{InSet, Kind, MembersAre, back, cohortOf, isOld, isUnregistered, joins, keptUnits, kindOf, less, members, membersOf, more, olds, outside, registered, sampleCount, sampleRun, target, unregistered, young, youngs}
 use Rattle.model.specs.Methods.{generation}
 use Rattle.model.specs.Units.{InRange, Listed, Ranged}
 use Rattle.model.specs.declared.answers.Cohort.{Cohort}

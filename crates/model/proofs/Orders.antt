@@ -2,18 +2,16 @@
 use mathlib.Core.Bool.{Bool, true, false, cond, not}
 use mathlib.Core.List.{List, [], _∷_, _++_, map}
 use mathlib.Core.Logic.{inl, inr}
-use mathlib.Core.Path.{_≡_, refl, sym, ap, subst, _∙_}
-use Prim.Native.Nat.{ℕ, zero, suc, _+_, _<_, _≤_}
+use mathlib.Core.Path.{_≡_, refl, sym, ap, _∙_}
+use Prim.Native.Nat.{ℕ, zero, suc, _<_, _≤_}
 use native.Mathlib.Omega.{arith}
-use lib.Dec.{eqb}
 use lib.ListN.{length, getD, set, take, drop}
 use Rattle.std.specs.Holes.{inserted, removed}
-use Rattle.std.specs.shelf.Lists.{All, sumBy, countBy, kept-by}
+use Rattle.std.specs.shelf.Lists.{All, countBy, kept-by}
 use Rattle.std.proofs.shelf.Lists.{nil-from-length}
 use Rattle.std.proofs.shelf.Elements.{all-append, all-drop, all-kept-by, all-map, all-take, all-weaker}
 use Rattle.std.proofs.shelf.Sums.{sumBy-cons}
 use Rattle.std.proofs.shelf.Tests.{both-ways, cases-bool, eqb-false}
-use Rattle.std.proofs.shelf.Ways.{tells}
 use Rattle.model.specs.declared.units.Burn.{Burn}
 use Rattle.model.specs.Plain.{Before, Ordered, isUnit, noUnit, withBurn}
 use Rattle.model.specs.Units.{Standing}

@@ -1,21 +1,20 @@
 -- What holds of every year book's contents, whatever journal led to them.
-use mathlib.Core.Bool.{Bool, true, false, cond, _&&_}
-use mathlib.Core.HLevel.{Unit-prop, Π-prop, →-prop, ×-prop}
-use mathlib.Core.List.{List, [], _∷_, _++_, map}
-use mathlib.Core.Logic.{inl, inr, ∥∥₁-elim}
-use mathlib.Core.Path.{_≡_, refl, sym, ap}
-use Prim.Native.Nat.{ℕ, _<_, _≤_}
+use mathlib.Core.Bool.{Bool, true, false, cond}
+use mathlib.Core.HLevel.{Unit-prop, →-prop, ×-prop}
+use mathlib.Core.List.{List, [], _∷_, map}
+use mathlib.Core.Logic.{∥∥₁-elim}
+use mathlib.Core.Path.{_≡_}
+use Prim.Native.Nat.{ℕ, _≤_}
 use native.Mathlib.Bridge.{le-prop}
 use native.Mathlib.Omega.{arith}
 use Rattle.std.specs.Results.{isOk}
-use Rattle.std.specs.shelf.Lists.{All, countBy}
+use Rattle.std.specs.shelf.Lists.{All}
 use Rattle.std.proofs.shelf.Elements.{all-map, all-push, all-weaker}
-use Rattle.std.proofs.shelf.Tests.{cases-bool}
 use Rattle.std.proofs.shelf.Ways.{tells}
 use Rattle.model.specs.declared.events.Event.{Event}
 use Rattle.model.specs.declared.events.Event.the-variants.{EnterFuel, EnterUnit, EnterBurn, Strike, Restart, Next, Packing, Question}
 use Rattle.model.specs.declared.units.Fuel.{Fuel}
-use Rattle.model.specs.Plain.{Before, Contents, Ordered, Reached, Shows, after, changed, empty, firstBy, fuelInRange, fuelOf, isFuel, isUnit, noFuel, verdict}
+use Rattle.model.specs.Plain.{Before, Contents, Ordered, Reached, changed, empty, firstBy, fuelInRange, fuelOf, isFuel, noFuel, verdict}
 use Rattle.model.specs.Units.{Falling, Listed, Standing, listedUnit}
 use Rattle.model.proofs.Lives.{Apart, run-keeps, shown-apart}
 use Rattle.model.proofs.Verdicts.{passed-fuel}

@@ -1,24 +1,24 @@
 -- An event that is not refused has passed every check.
-use mathlib.Core.Bool.{Bool, true, false, cond, not}
+use mathlib.Core.Bool.{Bool, true, false}
 use mathlib.Core.List.{List, [], _∷_}
 use mathlib.Core.Logic.{inl, inr}
 use mathlib.Core.Path.{_≡_, refl, sym, ap}
 use Prim.Native.Nat.{ℕ, zero, suc, _<_, _≤_}
 use native.Mathlib.Omega.{arith}
-use lib.Dec.{leb, ltb}
 use lib.ListN.{getD, length, take}
 use Rattle.std.specs.Results.{isOk}
 use Rattle.std.specs.shelf.Lists.{All, countBy}
 use Rattle.std.specs.declared.result.Result.{Result}
 use Rattle.std.specs.declared.result.Result.the-variants.{Ok, Err}
 use Rattle.std.proofs.shelf.Tests.{both-ways, cases-bool, eqb-false, leb-false, ltb-false, not-false}
-use Rattle.model.specs.declared.events.Event.the-variants.{EnterBurn, EnterFuel, EnterUnit, Strike}
+use Rattle.model.specs.declared.events.Event.the-variants.{EnterBurn, EnterFuel, EnterUnit}
+use Rattle.model.specs.declared.faults.BookFault.{BookFault}
 use Rattle.model.specs.declared.faults.Fault.{Fault}
 use Rattle.model.specs.declared.units.BurnEntry.{BurnEntry}
 use Rattle.model.specs.declared.units.Fuel.{Fuel}
 use Rattle.model.specs.declared.units.UnitEntry.{UnitEntry}
 use Rattle.model.specs.Calendar.{isDay}
-use Rattle.model.specs.Plain.{Contents, any, burnChecks, burnOf, burnsFuel, exceeds, first, fuelChecks, fuelInRange, isFuel, isUnit, strikeChecks, unitChecks, unitInRange, unitOf, verdict}
+use Rattle.model.specs.Plain.{Contents, any, burnChecks, burnOf, exceeds, first, fuelChecks, fuelInRange, isFuel, isUnit, unitChecks, unitInRange, unitOf, verdict}
 
 pub passed : (cs : List (Bool × Fault)) → isOk (first cs) ≡ true → All (λ c. c .0 ≡ false) cs
 passed [] ok = tt
@@ -27,6 +27,9 @@ passed (c ∷ cs) ok =
       | inl e ↦ absurd (both-ways false refl (rw e at ok))
       | inr e ↦ (e, passed cs (rw e at ok))
     ]
+
+pub ok-accepted : (r : Result (Unit {0}) BookFault) → Ok tt ≡ r → isOk r ≡ true
+ok-accepted r e = ap isOk (sym e)
 
 pub record PassedUnit (p : Contents) (e : UnitEntry) : Type 0 where
   pub coded : 1 ≤ e .code

@@ -5,6 +5,8 @@ use lib.Dec.{ltb}
 use Rattle.model.specs.declared.faults.Fault.{Fault}
 use Rattle.model.specs.declared.faults.Layer.{Layer}
 use Rattle.model.specs.declared.faults.Layer.the-variants.{Intake, Book, Packed, Import, LoadYear, Method, Build, Combined, Packing}
+use Rattle.model.specs.declared.faults.Side.{Side}
+use Rattle.model.specs.declared.faults.Side.the-variants.{First, Second}
 use Rattle.model.specs.declared.faults.Rule.{Rule}
 use Rattle.model.specs.declared.faults.Rule.the-variants.{ShortOrForeignRecord, AfterQuestion, ZeroCode, NoSuchDay, OutOfRange, WeightsNotHundred, CannotStandAlone, AlreadyStands, NotStanding, TableFull, EmissionTooHigh, LaterDay, TooManyUnits, Missing, LoadTooHigh, MethodClosed, LowCostAboveLoad, NoShare, NoBuildUnit, NoDefault, BufferShort}
 
@@ -46,16 +48,11 @@ layerNumber Packing = 9
 abbrev pub newFault : Rule → Layer → ℕ → Fault
 newFault r l p = record { rule = r; layer = l; place = p; trail = 1 }
 
--- The sides of a join.
-pub data Side : Type 0 where
-  first : Side
-  second : Side
-
 -- A join's first side doubles the trail of a fault that comes through it; the second side doubles it and adds one.
 -- From 2^31 on the trail stays as it is.
 abbrev pub trailed : Side → ℕ → ℕ
-trailed first t = cond (ltb t (2 ^ 31)) (2 * t) t
-trailed second t = cond (ltb t (2 ^ 31)) (2 * t + 1) t
+trailed First t = cond (ltb t (2 ^ 31)) (2 * t) t
+trailed Second t = cond (ltb t (2 ^ 31)) (2 * t + 1) t
 
 -- A fault on the upper end of a join; all but the trail is as below.
 abbrev pub through : Side → Fault → Fault

@@ -1,6 +1,6 @@
 // Refusals: which rule broke, in which layer, where, and through which joins the fault came.
 ghost use mathlib.Core.Path.{_≡_};
-ghost use Rattle.model.specs.Faults.{layerNumber, newFault, ruleNumber};
+ghost use Rattle.model.specs.Faults.{layerNumber, newFault, ruleNumber, through};
 
 #[derive(Clone, Copy, PartialEq, Eq, Debug)]
 pub enum Rule {
@@ -100,6 +100,13 @@ pub struct Fault {
     pub trail: u32,
 }
 
+// The sides of a join.
+#[derive(Clone, Copy)]
+pub enum Side {
+    First,
+    Second,
+}
+
 impl Fault {
     // A fault as it arises.
     pub fn new(rule: Rule, layer: Layer, place: u32) -> Fault
@@ -110,6 +117,27 @@ impl Fault {
             layer,
             place,
             trail: 1,
+        }
+    }
+}
+
+impl Fault {
+    // The fault on the upper end of a join: its trail tells the side, as long as there is room for it.
+    pub fn through(self, side: Side) -> Fault
+        ensures { λ r. ⌜ r ≡ through side self ⌝ }
+    {
+        if self.trail >= 0x8000_0000 {
+            return self;
+        }
+        let trail = match side {
+            Side::First => 2 * self.trail,
+            Side::Second => 2 * self.trail + 1,
+        };
+        Fault {
+            rule: self.rule,
+            layer: self.layer,
+            place: self.place,
+            trail,
         }
     }
 }

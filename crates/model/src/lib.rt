@@ -36,6 +36,7 @@ pub use faults::RegisterFaultPartialEq;
 pub use faults::Rule;
 pub use faults::RuleDebug;
 pub use faults::RulePartialEq;
+pub use faults::Side;
 
 mod days;
 

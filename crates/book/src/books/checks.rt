@@ -1,11 +1,11 @@
 // What a book refuses, and in which order. A check looks and changes nothing.
 ghost use mathlib.Core.Path.{_≡_};
 ghost use Rattle.std.specs.Results.{Cases};
-ghost use Rattle.std.specs.declared.result.Result.the-variants.{Err, Ok};
+ghost use Rattle.std.specs.declared.result.Result.the-variants.{Err};
 ghost use Rattle.model.specs.declared.events.Event.the-variants.{EnterBurn, EnterFuel, EnterUnit, Strike};
-ghost use Rattle.model.specs.Plain.{bookFault, burnOf, efficiencyInRange, fuelInRange, unitInRange, verdict};
+ghost use Rattle.model.specs.Plain.{bookFault, efficiencyInRange, fuelInRange, unitInRange, verdict};
 ghost use Rattle.book.specs.Seen.{seen};
-ghost use Rattle.book.specs.Standing.{StandsAt};
+ghost use Rattle.book.specs.Standing.{TakesBurn, TakesStrike};
 use super::Book;
 use super::FUELS;
 use super::UNITS;
@@ -23,7 +23,7 @@ use model::UnitEntry;
 
 // A burn that may be entered, and the place of its unit.
 #[derive(Clone, Copy)]
-pub struct Accepted {
+pub(super) struct Accepted {
     pub place: usize,
     pub burn: Burn,
 }
@@ -61,7 +61,7 @@ fn unit_in_range(entry: &UnitEntry) -> bool
 }
 
 impl Book {
-    pub fn check_fuel(&self, fuel: &Fuel) -> Result<(), BookFault>
+    pub(super) fn check_fuel(&self, fuel: &Fuel) -> Result<(), BookFault>
         ensures { λ r. ⌜ r ≡ verdict (seen (now (self .entry))) (EnterFuel (now (fuel .entry))) ⌝ }
     {
         if fuel.code == 0 {
@@ -79,7 +79,7 @@ impl Book {
         Ok(())
     }
 
-    pub fn check_unit(&self, entry: &UnitEntry) -> Result<(), BookFault>
+    pub(super) fn check_unit(&self, entry: &UnitEntry) -> Result<(), BookFault>
         ensures { λ r. ⌜ r ≡ verdict (seen (now (self .entry))) (EnterUnit (now (entry .entry))) ⌝ }
     {
         if entry.code == 0 {
@@ -101,8 +101,8 @@ impl Book {
     }
 
     // A unit that is absent has no burns, so that it may be looked up before its burns are.
-    pub fn check_burn(&self, entry: &BurnEntry) -> Result<Accepted, BookFault>
-        ensures { λ r. ⌜ Cases r (λ a. (Ok tt ≡ verdict (seen (now (self .entry))) (EnterBurn (now (entry .entry)))) × StandsAt (now (entry .entry) .unit) (seen (now (self .entry)) .units) (a .place) × (a .burn ≡ burnOf (seen (now (self .entry))) (now (entry .entry)))) (λ f. Err f ≡ verdict (seen (now (self .entry))) (EnterBurn (now (entry .entry)))) ⌝ }
+    pub(super) fn check_burn(&self, entry: &BurnEntry) -> Result<Accepted, BookFault>
+        ensures { λ r. ⌜ Cases r (λ a. TakesBurn (seen (now (self .entry))) (now (entry .entry)) (a .place) (a .burn)) (λ fault. Err fault ≡ verdict (seen (now (self .entry))) (EnterBurn (now (entry .entry)))) ⌝ }
     {
         if entry.unit == 0 || entry.fuel == 0 {
             return Err(refusal(Rule::ZeroCode, entry.unit));
@@ -133,8 +133,8 @@ impl Book {
         Ok(Accepted { place, burn })
     }
 
-    pub fn check_strike(&self, code: u16) -> Result<usize, BookFault>
-        ensures { λ r. ⌜ Cases r (λ place. (Ok tt ≡ verdict (seen (now (self .entry))) (Strike code)) × StandsAt code (seen (now (self .entry)) .units) place) (λ f. Err f ≡ verdict (seen (now (self .entry))) (Strike code)) ⌝ }
+    pub(super) fn check_strike(&self, code: u16) -> Result<usize, BookFault>
+        ensures { λ r. ⌜ Cases r (λ place. TakesStrike (seen (now (self .entry))) code place) (λ fault. Err fault ≡ verdict (seen (now (self .entry))) (Strike code)) ⌝ }
     {
         if code == 0 {
             return Err(refusal(Rule::ZeroCode, code));

@@ -13,7 +13,7 @@ use model::Fuel;
 use model::UnitEntry;
 
 // The fuel with the code.
-pub fn find_fuel(fuels: &[Fuel], code: u16) -> Option<Fuel>
+pub(super) fn find_fuel(fuels: &[Fuel], code: u16) -> Option<Fuel>
     ensures test { λ r. ⌜ isSome r ≡ any (isFuel code) (now (fuels .entry)) ⌝ }
     ensures value { λ r. ⌜ found r (λ fuel. fuel ≡ fuelOf code (now (fuels .entry))) ⌝ }
 {
@@ -26,7 +26,7 @@ pub fn find_fuel(fuels: &[Fuel], code: u16) -> Option<Fuel>
 }
 
 // The place of the unit with the code.
-pub fn find_unit(units: &[StandingUnit], code: u16) -> Option<usize>
+pub(super) fn find_unit(units: &[StandingUnit], code: u16) -> Option<usize>
     ensures test { λ r. ⌜ isSome r ≡ any (isUnit code) (map standing (now (units .entry))) ⌝ }
     ensures place { λ r. ⌜ found r (λ i. StandsAt code (map standing (now (units .entry))) i) ⌝ }
 {
@@ -46,7 +46,7 @@ fn is_before(first: UnitEntry, second: UnitEntry) -> bool
 }
 
 // The place for a new unit: behind all that stand before it.
-pub fn place(units: &[StandingUnit], added: UnitEntry) -> usize
+pub(super) fn place(units: &[StandingUnit], added: UnitEntry) -> usize
     ensures bound { λ r. ⌜ r ≤ length (map standing (now (units .entry))) ⌝ }
     ensures newer { λ r. ⌜ ((k : ℕ) → k < r → Before (getD (map standing (now (units .entry))) k noUnit) (fresh added)) ⌝ }
     ensures stops { λ r. ⌜ (r < length (map standing (now (units .entry))) → Before (getD (map standing (now (units .entry))) r noUnit) (fresh added) → ⊥) ⌝ }

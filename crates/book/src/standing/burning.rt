@@ -32,7 +32,7 @@ const NO_BURN: Burn = Burn {
 };
 
 // The thousandths of a gram from a burn.
-pub fn thousandths(burn: &Burn) -> u64
+pub(crate) fn thousandths(burn: &Burn) -> u64
     requires { ⌜ Fits (now burn) ⌝ }
     ensures value { λ r. ⌜ r ≡ burned (now (burn .entry)) ⌝ }
     ensures bound { λ r. ⌜ r ≤ 320000000000000000 ⌝ }
@@ -44,7 +44,7 @@ pub fn thousandths(burn: &Burn) -> u64
 
 impl StandingUnit {
     // A unit as it is entered, without burns.
-    pub fn new(entry: UnitEntry) -> StandingUnit
+    pub(crate) fn new(entry: UnitEntry) -> StandingUnit
         requires { ⌜ 1 ≤ entry .code ⌝ }
         requires { ⌜ isDay (entry .day) ≡ true ⌝ }
         requires { ⌜ unitInRange entry ≡ true ⌝ }
@@ -73,7 +73,7 @@ impl StandingUnit {
     }
 
     // Some burn is of the fuel with this code.
-    pub fn burns_fuel(&self, code: u16) -> bool
+    pub(crate) fn burns_fuel(&self, code: u16) -> bool
         ensures { λ r. ⌜ r ≡ any (burnsFuel code) (standing (now (self .entry)) .burns) ⌝ }
     {
         for burn in self.burns() {
@@ -85,14 +85,14 @@ impl StandingUnit {
     }
 
     // No place is left for a burn.
-    pub fn is_full(&self) -> bool
+    pub(crate) fn is_full(&self) -> bool
         ensures { λ r. ⌜ r ≡ leb 4 (length (standing (now (self .entry)) .burns)) ⌝ }
     {
         self.burns().len() >= PLACES
     }
 
     // The thousandths of a gram from all burns.
-    pub fn burned(&self) -> u64
+    pub(crate) fn burned(&self) -> u64
         ensures value { λ r. ⌜ r ≡ sumBy burned (standing (now (self .entry)) .burns) ⌝ }
         ensures bound { λ r. ⌜ r ≤ 1280000000000000000 ⌝ }
     {
@@ -104,7 +104,7 @@ impl StandingUnit {
     }
 
     // With this burn too, a unit without an efficiency would emit more than the limit.
-    pub fn exceeds(&self, burn: &Burn) -> bool
+    pub(crate) fn exceeds(&self, burn: &Burn) -> bool
         requires { ⌜ Fits (now burn) ⌝ }
         ensures { λ r. ⌜ r ≡ exceeds (standing (now (self .entry))) (now (burn .entry)) ⌝ }
     {
@@ -113,7 +113,7 @@ impl StandingUnit {
     }
 
     // The unit with one burn more.
-    pub fn with_burn(self, burn: Burn) -> StandingUnit
+    pub(crate) fn with_burn(self, burn: Burn) -> StandingUnit
         requires { ⌜ Fits burn ⌝ }
         requires { ⌜ length (standing self .burns) < 4 ⌝ }
         requires { ⌜ exceeds (standing self) burn ≡ false ⌝ }

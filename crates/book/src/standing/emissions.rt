@@ -77,7 +77,7 @@ impl StandingUnit {
     }
 
     // The unit as a register tells it.
-    pub fn told(&self) -> PowerUnit
+    pub(crate) fn told(&self) -> PowerUnit
         ensures { λ r. ⌜ r ≡ told (listedUnit (standing (now (self .entry)))) ⌝ }
     {
         let default_grams = match self.default_emission() {

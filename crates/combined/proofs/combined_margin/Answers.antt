@@ -5,6 +5,7 @@ use Rattle.std.specs.declared.result.Result.the-variants.{Err, Ok}
 use Rattle.model.specs.History.{listed}
 use Rattle.model.specs.declared.faults.CombinedFault.{CombinedFault}
 use Rattle.model.proofs.Cohorts.{computed-is-cohort}
+use Rattle.model.proofs.Nearness.{build-near}
 use Rattle.combined.proofs.Parts.{built-ok, walked}
 use Rattle.combined.proofs.Whole.{answered-whole, built-moved, by-build, by-method, by-question, by-walk, meets-moved, told-moved, walk-moved}
 use Rattle.combined.proofs.combined_margin.Needs as need
@@ -94,6 +95,6 @@ returns g c =
     (q .2) all
     (c .in-Continue-operating .operating) (meets-moved b (g .M·Method .meaning m) (g .M·Method .may m) _ (o .answer))
     (c .in-Continue-build .build) (c .mixture-combined .result)
-    (built-ok (w .build) (c .args .reference) list all ? computed-is-cohort ranged falls (c .in-Continue-build .build) (built-moved d (w .build) (q .0) (e .answer)))
+    (built-ok (w .build) (c .args .reference) list all build-near computed-is-cohort ranged falls (c .in-Continue-build .build) (built-moved d (w .build) (q .0) (e .answer)))
     (c .mixture-combined .ensures)
     (g .M·Method·met .near m) ranged falls

@@ -1,4 +1,4 @@
-use mathlib.Core.Path.{_≡_, ap, _∙_}
+use mathlib.Core.Path.{ap, _∙_}
 use Rattle.model.specs.Course.{toldCourse}
 use Rattle.model.specs.History.{listed}
 use Rattle.build.proofs.Choosing.{cohort-first, cohort-none, cohort-second, cohort-third}
@@ -10,7 +10,7 @@ returns-then-all-eq0 g c =
     record {
       contents = e .contents;
       restarted = e .restarted;
-      answer = cohort-none (c .args .reference) (listed (g .R·Register .contents (c .args .register .now))) _ (e .answer) _ (c .new .ensures) (c .if-all-eq0 .taken);
+      answer = cohort-none (c .args .reference) (listed (g .R·Register .contents (c .args .register .now))) _ (c .all .ensures) _ (e .answer) _ (c .no-build-unit .ensures) (c .if-all-eq0 .taken);
     }
 
 pub returns-then-kept-sample : need.returns-then-kept-sample
@@ -21,8 +21,8 @@ returns-then-kept-sample g c =
       contents = f .contents ∙ e .contents;
       restarted = f .restarted ∙ ap (λ p. toldCourse (listed p)) (e .contents);
       answer =
-          cohort-first (c .args .reference) (listed (g .R·Register .contents (c .args .register .now))) _ (e .answer) (c .if-all-eq0 .left) _
-          (rw (e .contents) at (f .answer)) (c .if-kept-sample .taken);
+          cohort-first (c .args .reference) (listed (g .R·Register .contents (c .args .register .now))) _ (c .all .ensures) _ (e .answer) (c .if-all-eq0 .left)
+          _ (c .sample .ensures) _ (rw (e .contents) at (f .answer)) (c .if-kept-sample .taken);
     }
 
 pub returns-then-still-missing-eq0 : need.returns-then-still-missing-eq0
@@ -35,9 +35,9 @@ returns-then-still-missing-eq0 g c =
       contents = h .contents ∙ two;
       restarted = h .restarted ∙ ap (λ p. toldCourse (listed p)) two;
       answer =
-          cohort-second (c .args .reference) (listed (g .R·Register .contents (c .args .register .now))) _ (e .answer) (c .if-all-eq0 .left) _
-          (rw (e .contents) at (f .answer)) (c .if-kept-sample .left) _ (c .saturating-sub-missing .ensures) _
-          (rw two at (h .answer)) _ (c .saturating-sub-still-missing .ensures) (c .if-still-missing-eq0 .taken);
+          cohort-second (c .args .reference) (listed (g .R·Register .contents (c .args .register .now))) _ (c .all .ensures) _ (e .answer) (c .if-all-eq0 .left)
+          _ (c .sample .ensures) _ (rw (e .contents) at (f .answer)) (c .if-kept-sample .left) _ (c .saturating-sub-missing .ensures)
+          _ (c .joining .ensures) _ (rw two at (h .answer)) _ (c .saturating-sub-still-missing .ensures) (c .if-still-missing-eq0 .taken);
     }
 
 pub returns : need.returns
@@ -52,7 +52,8 @@ returns g c =
       contents = i .contents ∙ three;
       restarted = i .restarted ∙ ap (λ p. toldCourse (listed p)) three;
       answer =
-          cohort-third (c .args .reference) (listed (g .R·Register .contents (c .args .register .now))) _ (e .answer) (c .if-all-eq0 .left) _
-          (rw (e .contents) at (f .answer)) (c .if-kept-sample .left) _ (c .saturating-sub-missing .ensures) _
-          (rw two at (h .answer)) _ (c .saturating-sub-still-missing .ensures) (c .if-still-missing-eq0 .left) _ (rw three at (i .answer));
+          cohort-third (c .args .reference) (listed (g .R·Register .contents (c .args .register .now))) _ (c .all .ensures) _ (e .answer) (c .if-all-eq0 .left)
+          _ (c .sample .ensures) _ (rw (e .contents) at (f .answer)) (c .if-kept-sample .left) _ (c .saturating-sub-missing .ensures)
+          _ (c .joining .ensures) _ (rw two at (h .answer)) _ (c .saturating-sub-still-missing .ensures) (c .if-still-missing-eq0 .left)
+          _ (c .joining-2 .ensures) _ (rw three at (i .answer));
     }

@@ -1,8 +1,5 @@
-use mathlib.Core.List.{map}
-use mathlib.Core.Path.{_≡_, refl, sym, ap}
+use mathlib.Core.Path.{refl}
 use native.Mathlib.Omega.{arith}
-use Rattle.std.specs.Of.Vec.{vec-items}
-use Rattle.std.specs.Results.{isOk}
 use Rattle.std.proofs.shelf.Results.{err-from-errBy}
 use Rattle.model.specs.declared.events.Event.the-variants.{EnterFuel}
 use Rattle.model.proofs.Lives.{lives-fuel, reached-more}
@@ -18,12 +15,12 @@ returns-in-Break-check-fuel c =
 pub ghost-self : need.ghost-self
 ghost-self c =
     let b = c .args .self .now in
-    let l = lives-fuel (seen b) _ (c .args .fuel) (c .in-Continue-check-fuel .ensures tt) (ap (λ fs. record { fuels = fs; units = seen b .units }) (c .push-reserved .ensures .items)) in
+    let l = lives-fuel (seen b) _ (c .args .fuel) (c .in-Continue-check-fuel .ensures tt) (c .push-reserved .ensures .items) in
     (omega arith, (b .«unit_room», (omega arith, (reached-more (EnterFuel (c .args .fuel)) _ _ l (b .reached), tt))))
 
 pub returns : need.returns
 returns c =
     let b = c .args .self .now in
     let is = c .in-Continue-check-fuel .ensures tt in
-    let l = lives-fuel (seen b) _ (c .args .fuel) is (ap (λ fs. record { fuels = fs; units = seen b .units }) (c .push-reserved .ensures .items)) in
+    let l = lives-fuel (seen b) _ (c .args .fuel) is (c .push-reserved .ensures .items) in
     accepting (EnterFuel (c .args .fuel)) b _ is l refl

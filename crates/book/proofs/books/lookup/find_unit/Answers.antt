@@ -1,8 +1,7 @@
 use mathlib.Core.Bool.{true, false}
 use mathlib.Core.List.{map}
-use mathlib.Core.Path.{_≡_, ap}
+use mathlib.Core.Path.{_≡_}
 use Prim.Native.Nat.{_<_, _≤_}
-use native.Mathlib.Omega.{arith}
 use lib.ListN.{getD, length}
 use Rattle.std.proofs.shelf.Lists.{length-map}
 use Rattle.std.proofs.shelf.Tests.{eq-eqb, ne-eqb}

@@ -1,5 +1,5 @@
 use borrow.Author.Tests.{ltb-false}
-use mathlib.Core.Path.{_≡_, refl, sym, ap, _∙_}
+use mathlib.Core.Path.{refl, sym, ap, _∙_}
 use Prim.Native.Nat.{_-_, _<_}
 use native.Mathlib.Omega.{arith}
 use lib.ListN.{length, getD, take, drop}
@@ -7,8 +7,9 @@ use Rattle.std.specs.declared.option.Option.the-variants.{Some}
 use Rattle.std.proofs.shelf.Elements.{all-getD}
 use Rattle.std.proofs.shelf.Lists.{take-all, take-more}
 use Rattle.model.specs.Units.{lowest}
+use Rattle.model.proofs.Emissions.{lowest-le}
 use Rattle.book.specs.Burns.{Fits, lowestOf, noBurn}
-use Rattle.book.proofs.Lowest.{lowest-le, lowest-parts, lowest-push}
+use Rattle.book.proofs.Lowest.{lowest-parts, lowest-push}
 use Rattle.book.proofs.standing.StandingUnit.lowest_carbon_factor.Needs as need
 
 pub loop-burn-holds : need.loop-burn-holds
@@ -30,5 +31,5 @@ returns c =
     let is = c .loop-burn .inv (getD bs 0 noBurn) refl ∙ ap (lowest (getD bs 0 noBurn)) all in
     record {
       value = ap Some is ∙ sym (lowest-parts bs some) ∙ ap lowestOf (c .burns .ensures .value);
-      bound = omega (arith, is, lowest-le (getD bs 0 noBurn) rest (all-getD Fits bs 0 noBurn some (c .burns .ensures .fits)));
+      bound = omega (arith, is, lowest-le (getD bs 0 noBurn) rest (all-getD Fits bs 0 noBurn some (c .burns .ensures .fits) .carbon));
     }

@@ -1,7 +1,7 @@
-use mathlib.Core.Path.{_≡_, refl, ap}
-use Prim.Native.Nat.{_+_, _<_, _≤_}
+use mathlib.Core.Path.{refl, ap}
+use Prim.Native.Nat.{_<_, _≤_}
 use native.Mathlib.Omega.{arith}
-use lib.ListN.{length, getD, set, take}
+use lib.ListN.{length}
 use Rattle.std.proofs.shelf.Lists.{length-take, take-more-set}
 use Rattle.book.specs.Standing.{standing}
 use Rattle.book.proofs.Tables.{at-set, capped-more}
