@@ -1,4 +1,6 @@
 // Records from standard input, a line for each answer and each refusal to standard output.
+ghost use Prim.Native.Nat.{_≤_};
+ghost use Rattle.std.specs.Vec.{made};
 use book::Book;
 use intake::FeatureDebug;
 use intake::FeatureDisplay;
@@ -39,7 +41,9 @@ fn run(rt: &LibcRuntime) -> Result<(), AnyError> {
 }
 
 // Reads until the piece is full or the input ends, and tells how many bytes came.
-fn fill<R: Read>(input: &mut R, piece: &mut [u8; RECORD]) -> io::Result<usize> {
+fn fill<R: Read>(input: &mut R, piece: &mut [u8; RECORD]) -> io::Result<usize>
+    ensures { λ r. ⌜ made r (λ n. n ≤ 32) ⌝ }
+{
     let mut filled = 0;
     while filled < RECORD {
         let came = input.read(&mut piece[filled..RECORD])?;
