@@ -23,10 +23,10 @@ use Rattle.model.specs.declared.answers.CohortSet.{CohortSet}
 use Rattle.model.specs.declared.faults.Fault.{Fault}
 use Rattle.model.specs.declared.faults.Layer.the-variants.{Build}
 use Rattle.model.proofs.Joining.{generates-more}
-use Rattle.build.specs.Members.{Roomy, firstWithout, gramsOf, memberStep, noSums, orCode, sumsOf, taken, withMember}
+use Rattle.build.specs.Members.{Roomy, firstWithout, gramsOf, memberStep, noSums, orCode, sumsOf, taken, walkedSums, withMember}
 use Rattle.build.specs.declared.members.Members.{Members}
 use Rattle.build.specs.declared.members.Sums.{Sums}
-use Rattle.build.proofs.Walked.{unlessFault, walk-folds}
+use Rattle.build.proofs.Walked.{walk-folds}
 
 abbrev sums : ℕ → ℕ → Option ℕ → Sums
 sums g h l = record { grams = g; generation = h; lacking = l }
@@ -96,7 +96,7 @@ module _ (reference : ℕ) (c : Cohort) where
       → Ok n ≡ ifWalked Build d (Ok (length (d .units))) (λ f. Err (wrap f))
       → m ≡ folded memberStep (state (c .counts) noSums) (take 4000 (map told (d .units)))
       → Roomy (m .sums) n
-      → (Ok (m .sums) ≡ unlessFault d (Ok (sumsOf reference c (d .units)))) × Roomy (m .sums) 4000
+      → (Ok (m .sums) ≡ walkedSums reference c d) × Roomy (m .sums) 4000
   walk-adds wrap d n m h s room =
       let w = walk-folds memberStep _ m (λ (x : Members). x .sums) wrap d n _ h s (adds-all (d .units)) in
       (w .0, record { generation = omega (arith, room .generation); grams = room .grams })

@@ -25,11 +25,11 @@ use Rattle.model.specs.declared.faults.Fault.{Fault}
 use Rattle.model.specs.declared.faults.Layer.the-variants.{Build}
 use Rattle.model.specs.declared.faults.Rule.the-variants.{NoDefault}
 use Rattle.model.proofs.Members.{members-generate}
-use Rattle.build.specs.Cohorts.{cohortOr}
+use Rattle.build.specs.Cohorts.{cohortOr, walkedCohort}
 use Rattle.build.specs.Margins.{meanOf, meanUnless}
-use Rattle.build.specs.Members.{firstWithout, orCode, sumsOf}
+use Rattle.build.specs.Members.{firstWithout, orCode, sumsOf, walkedSums}
 use Rattle.build.specs.declared.members.Sums.{Sums}
-use Rattle.build.proofs.Walked.{Fits, fits-is, ok-is, unlessFault}
+use Rattle.build.proofs.Walked.{Fits, fits-is, ok-is}
 
 -- ---- the fault of a cohort is that of its margin
 
@@ -53,7 +53,7 @@ module _ (reference : ℕ) (us : List Listed) where
   fit-built proper false f h = let z : f ≡ _ = cc in ap Err z
   fit-built (faulty x) b f h = let z : f ≡ record { fault = x } = cc in ap Err z
 
-pub built-err : (reference : ℕ) (c : Course Listed) (f : BuildFault) → Err f ≡ unlessFault c (cohortOr reference (c .units)) → Err f ≡ built reference c
+pub built-err : (reference : ℕ) (c : Course Listed) (f : BuildFault) → Err f ≡ walkedCohort reference c → Err f ≡ built reference c
 built-err reference c f h = fit-built reference (c .units) (c .ending) (leb (length (c .units)) Limit) f h
 
 -- ---- the mean of the sums is the margin
@@ -89,7 +89,7 @@ fit-cohort reference us proper false x h = (cc, cc, cc, cc)
 fit-cohort reference us (faulty f) b x h = (cc, cc, cc, cc)
 
 module _ (reference : ℕ) (c : Course Listed) (ranged : Ranged (c .units)) (x : Cohort) (s : Sums)
-    (h : Ok x ≡ unlessFault c (cohortOr reference (c .units))) (k : Ok s ≡ unlessFault c (Ok (sumsOf reference x (c .units)))) where
+    (h : Ok x ≡ walkedCohort reference c) (k : Ok s ≡ walkedSums reference x c) where
   pub mean-is : (r : Result ℕ BuildFault) → r ≡ meanOf s → withCohort x r ≡ built reference c
   mean-is r e =
       let w = fit-cohort reference (c .units) (c .ending) (leb (length (c .units)) Limit) x h in

@@ -25,14 +25,14 @@ use Rattle.model.specs.declared.faults.Layer.the-variants.{Build}
 use Rattle.model.specs.declared.faults.Rule.the-variants.{NoBuildUnit}
 use Rattle.model.proofs.Fronts.{kept-few, kept-twice}
 use Rattle.model.proofs.Joining.{joining-alike, joining-within}
+use Rattle.build.specs.Cohorts.{cohortOr, walkedCohort}
 use Rattle.build.specs.Kinds.{belongs}
-use Rattle.build.specs.Cohorts.{cohortOr}
-use Rattle.build.specs.Runs.{metBy, runOf}
+use Rattle.build.specs.Runs.{metBy, runOf, walkedRun}
 use Rattle.build.specs.declared.kinds.Kind.{Kind}
 use Rattle.build.specs.declared.kinds.Kind.the-variants.{Unregistered, Registered, Old}
 use Rattle.build.specs.declared.runs.Quota.{Quota}
 use Rattle.build.specs.declared.runs.Run.{Run}
-use Rattle.build.proofs.Walked.{Fits, fits-few, fits-is, ok-fits, ok-is, unlessFault}
+use Rattle.build.proofs.Walked.{Fits, fits-few, fits-is, ok-fits, ok-is}
 
 -- ---- how many join
 
@@ -62,10 +62,10 @@ module _ (reference : ℕ) (c : Course Listed) where
   us = c .units
 
   abbrev Walked : Quota → Run → Type 0
-  Walked q r = Ok r ≡ unlessFault c (Ok (runOf reference q us))
+  Walked q r = Ok r ≡ walkedRun reference q c
 
   abbrev Answer : Result Cohort BuildFault → Type 0
-  Answer r = r ≡ unlessFault c (cohortOr reference us)
+  Answer r = r ≡ walkedCohort reference c
 
   -- the run that was walked for a quota k
   run-is : (k q : Quota) → q ≡ k → (r : Run) → Walked q r → r ≡ runOf reference k us
@@ -116,7 +116,7 @@ module _ (reference : ℕ) (c : Course Listed) where
       pub cohort-first : sample .young .units ≡ sample .all .units → Answer (Ok (record { set = Sample; counts = (sample .young .units, 0, 0) }))
       cohort-first same =
           let none : length (olds reference (sampleRun reference us)) ≡ 0 = omega (arith, halves) in
-          chosen _ (ap (λ n. record { set = Sample; counts = (n, 0, 0) }) kept-number ∙ sym (cond-true _ _ _ (eq-eqb _ _ none)))
+          chosen _ (rw (kept-number, eq-eqb _ _ none))
 
       module _ (other : sample .young .units ≡ sample .all .units → ⊥) (m : ℕ) (short : m ≡ all .all .generation - 5 * sample .young .generation)
           (i : Quota) (of-registered : i ≡ quota Registered 0 m) (more : Run) (r : Walked i more) where
@@ -134,20 +134,11 @@ module _ (reference : ℕ) (c : Course Listed) where
           pub cohort-second : n ≡ 0 → Answer (Ok (record { set = WithRegistered; counts = (sample .young .units, more .all .units, 0) }))
           cohort-second none =
               let enough : reaches (target us) (withRegistered reference us) ≡ true = le-leb _ _ (omega (arith, missing)) in
-              chosen _
-              (ap (λ k. record { set = WithRegistered; counts = (k, more .all .units, 0) }) kept-number
-              ∙ ap (λ k. record { set = WithRegistered; counts = (length (keptUnits reference us), k, 0) }) (registered-are .0)
-              ∙ sym (cond-true _ _ _ enough)
-              ∙ sym (cond-false _ _ _ has-old))
+              chosen _ (rw (kept-number, registered-are .0, has-old, enough))
 
           pub cohort-third : (n ≡ 0 → ⊥) → (j : Quota) → j ≡ quota Old 0 n → (old : Run) → Walked j old
               → Answer (Ok (record { set = WithOld; counts = (sample .young .units, more .all .units, old .all .units) }))
           cohort-third below j of-old old b =
               let less : reaches (target us) (withRegistered reference us) ≡ false = lt-leb _ _ (omega (arith, missing, below)) in
               let olds-are = join-is Old (withRegistered reference us) n j of-old old (olds reference (unregistered us)) b missing (sym (kept-twice (isOld reference) isUnregistered us)) in
-              chosen _
-              (ap (λ k. record { set = WithOld; counts = (k, more .all .units, old .all .units) }) kept-number
-              ∙ ap (λ k. record { set = WithOld; counts = (length (keptUnits reference us), k, old .all .units) }) (registered-are .0)
-              ∙ ap (λ k. record { set = WithOld; counts = (length (keptUnits reference us), registeredCount reference us, k) }) (olds-are .0)
-              ∙ sym (cond-false _ _ _ less)
-              ∙ sym (cond-false _ _ _ has-old))
+              chosen _ (rw (kept-number, registered-are .0, olds-are .0, has-old, less))

@@ -18,11 +18,11 @@ use Rattle.model.specs.declared.faults.Layer.the-variants.{Build}
 use Rattle.model.specs.declared.units.PowerUnit.{PowerUnit}
 use Rattle.model.proofs.Joining.{generates-more}
 use Rattle.build.specs.Kinds.{belongs, longAgo}
-use Rattle.build.specs.Runs.{Small, growStep, metBy, noRun, runOf, runStep, withUnit}
+use Rattle.build.specs.Runs.{Small, growStep, metBy, noRun, runOf, runStep, walkedRun, withUnit}
 use Rattle.build.specs.declared.runs.Growing.{Growing}
 use Rattle.build.specs.declared.runs.Quota.{Quota}
 use Rattle.build.specs.declared.runs.Run.{Run}
-use Rattle.build.proofs.Walked.{unlessFault, walk-folds}
+use Rattle.build.proofs.Walked.{walk-folds}
 
 -- the units have joined r, which makes s
 record Ran (reference : ℕ) (r : Run) (us : List Listed) (s : Run) : Type 0 where
@@ -105,7 +105,7 @@ module _ (reference : ℕ) (q : Quota) where
       → Ok n ≡ ifWalked Build c (Ok (length (c .units))) (λ f. Err (wrap f))
       → j ≡ folded growStep (record { reference = reference; quota = q; run = noRun }) (take 4000 (map told (c .units)))
       → Small (j .run) n
-      → (Ok (j .run) ≡ unlessFault c (Ok (runOf reference q (c .units)))) × Small (j .run) 4000
+      → (Ok (j .run) ≡ walkedRun reference q c) × Small (j .run) 4000
   walk-counts wrap c n j h s small =
       let w = walk-folds growStep _ j (λ (x : Growing). x .run) wrap c n _ h s (joins (map told (c .units)) noRun ∙ counts-run (c .units)) in (
         w .0,

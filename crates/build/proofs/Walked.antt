@@ -13,20 +13,17 @@ use Rattle.std.specs.declared.result.Result.{Result}
 use Rattle.std.specs.declared.result.Result.the-variants.{Ok, Err}
 use Rattle.model.specs.Course.{Course, Limit, ifWalked, proper}
 use Rattle.model.specs.Units.{Listed, told}
-use Rattle.model.proofs.Courses.{fit-ok}
 use Rattle.model.specs.declared.faults.BuildFault.{BuildFault}
 use Rattle.model.specs.declared.faults.Fault.{Fault}
 use Rattle.model.specs.declared.faults.Layer.the-variants.{Build}
 use Rattle.model.specs.declared.units.PowerUnit.{PowerUnit}
+use Rattle.model.proofs.Courses.{fit-ok}
+use Rattle.build.specs.Walks.{unlessFault}
 
 -- a walk over the course meets no fault
 pub record Fits (c : Course Listed) : Type 0 where
   pub ends : c .ending ≡ proper
   pub few : leb (length (c .units)) Limit ≡ true
-
--- what is answered where a walk meets none
-abbrev pub unlessFault : {X : Type 0} → Course Listed → Result X BuildFault → Result X BuildFault
-unlessFault c r = ifWalked Build c r (λ f. Err (record { fault = f }))
 
 module _ {X E : Type 0} (wrap : Fault → E) (c : Course Listed) (s x : X) (h : Ok s ≡ ifWalked Build c (Ok x) (λ f. Err (wrap f))) where
   pub ok-is : s ≡ x

@@ -1,4 +1,5 @@
 pub mod Kinds
+pub mod Walks
 pub mod Runs
 pub mod Cohorts
 pub mod Members

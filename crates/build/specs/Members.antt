@@ -6,15 +6,20 @@ use Rattle.std.specs.Options.{orOther}
 use Rattle.std.specs.shelf.Lists.{sumBy}
 use Rattle.std.specs.declared.option.Option.{Option}
 use Rattle.std.specs.declared.option.Option.the-variants.{Some, None}
+use Rattle.std.specs.declared.result.Result.{Result}
+use Rattle.std.specs.declared.result.Result.the-variants.{Ok}
 use Rattle.model.specs.Classes.{isHome, isRegistered}
 use Rattle.model.specs.Cohort.{Kind, young, joins, back, outside, counted, gramsOr, isThird, less, membersOf, more}
+use Rattle.model.specs.Course.{Course}
 use Rattle.model.specs.Fraction.{Frac}
 use Rattle.model.specs.Methods.{generation}
 use Rattle.model.specs.Units.{Listed}
 use Rattle.model.specs.declared.answers.Cohort.{Cohort}
 use Rattle.model.specs.declared.answers.CohortSet.{CohortSet}
+use Rattle.model.specs.declared.faults.BuildFault.{BuildFault}
 use Rattle.model.specs.declared.units.PowerUnit.{PowerUnit}
 use Rattle.build.specs.Kinds.{longAgo}
+use Rattle.build.specs.Walks.{unlessFault}
 use Rattle.build.specs.declared.members.Members.{Members}
 use Rattle.build.specs.declared.members.Sums.{Sums}
 
@@ -67,3 +72,6 @@ sumsOf reference c us =
       generation = generation (membersOf reference us c);
       lacking = firstWithout (c .set) reference (membersOf reference us c);
     }
+
+abbrev pub walkedSums : ℕ → Cohort → Course Listed → Result Sums BuildFault
+walkedSums reference cohort c = unlessFault c (Ok (sumsOf reference cohort (c .units)))

@@ -5,11 +5,16 @@ use Prim.Native.Nat.{ℕ, _+_, _*_, _≤_}
 use lib.Dec.{leb}
 use lib.ListN.{length, take}
 use Rattle.std.specs.shelf.Lists.{kept-by}
+use Rattle.std.specs.declared.result.Result.{Result}
+use Rattle.std.specs.declared.result.Result.the-variants.{Ok}
 use Rattle.model.specs.Cohort.{joining, youngs}
+use Rattle.model.specs.Course.{Course}
 use Rattle.model.specs.Methods.{generation}
 use Rattle.model.specs.Units.{Listed, told}
+use Rattle.model.specs.declared.faults.BuildFault.{BuildFault}
 use Rattle.model.specs.declared.units.PowerUnit.{PowerUnit}
 use Rattle.build.specs.Kinds.{belongs, longAgo}
+use Rattle.build.specs.Walks.{unlessFault}
 use Rattle.build.specs.declared.runs.Growing.{Growing}
 use Rattle.build.specs.declared.runs.Quota.{Quota}
 use Rattle.build.specs.declared.runs.Run.{Run}
@@ -55,3 +60,6 @@ runOf reference q us =
       all = record { units = length run; generation = generation run };
       young = record { units = length (youngs reference run); generation = generation (youngs reference run) };
     }
+
+abbrev pub walkedRun : ℕ → Quota → Course Listed → Result Run BuildFault
+walkedRun reference q c = unlessFault c (Ok (runOf reference q (c .units)))

@@ -1,13 +1,12 @@
 // The build cohort: the sample run, or what takes its place where units of it are old.
 ghost use mathlib.Core.Path.{_≡_};
 ghost use denote.Ref.{now};
-ghost use Rattle.std.specs.declared.result.Result.the-variants.{Err};
-ghost use Rattle.model.specs.Course.{ifWalked, toldCourse};
+ghost use Rattle.model.specs.Course.{toldCourse};
 ghost use Rattle.model.specs.Faults.{newFault};
 ghost use Rattle.model.specs.History.{listed};
 ghost use Rattle.model.specs.declared.faults.Layer.the-variants.{Build};
 ghost use Rattle.model.specs.declared.faults.Rule.the-variants.{NoBuildUnit};
-ghost use Rattle.build.specs.Cohorts.{cohortOr};
+ghost use Rattle.build.specs.Cohorts.{walkedCohort};
 use super::kinds::Kind;
 use super::runs::Quota;
 use super::runs::walk_run;
@@ -31,7 +30,7 @@ pub fn no_build_unit() -> BuildFault
 pub fn cohort<R: Register>(register: &mut R, reference: u32) -> Result<Cohort, BuildFault>
     ensures contents { λ _. ⌜ R·Register .contents (now (register .exit)) ≡ R·Register .contents (now (register .entry)) ⌝ }
     ensures restarted { λ _. ⌜ R·Register .coming (now (register .exit)) ≡ toldCourse (listed (R·Register .contents (now (register .entry)))) ⌝ }
-    ensures answer { λ r. ⌜ r ≡ ifWalked Build (listed (R·Register .contents (now (register .entry)))) (cohortOr reference (listed (R·Register .contents (now (register .entry))) .units)) (λ f. Err (record { fault = f })) ⌝ }
+    ensures answer { λ r. ⌜ r ≡ walkedCohort reference (listed (R·Register .contents (now (register .entry)))) ⌝ }
 {
     let all = walk_run(register, reference, Quota::all())?.all;
     if all.units == 0 {
@@ -45,7 +44,7 @@ pub fn cohort<R: Register>(register: &mut R, reference: u32) -> Result<Cohort, B
             counts: (kept.units, 0, 0),
         });
     }
-    // What is missing to a fifth of all generation, five times.
+    // Five times what is missing to a fifth.
     let missing = all.generation.saturating_sub(5 * kept.generation);
     let registered = walk_run(
         register,

@@ -3,12 +3,11 @@ ghost use mathlib.Core.Path.{_≡_};
 ghost use Prim.Native.Nat.{_≤_};
 ghost use denote.Ref.{now};
 ghost use Rattle.std.specs.Vec.{made};
-ghost use Rattle.std.specs.declared.result.Result.the-variants.{Err, Ok};
-ghost use Rattle.model.specs.Course.{ifWalked, toldCourse};
+ghost use Rattle.std.specs.declared.result.Result.the-variants.{Ok};
+ghost use Rattle.model.specs.Course.{toldCourse};
 ghost use Rattle.model.specs.History.{listed};
-ghost use Rattle.model.specs.declared.faults.Layer.the-variants.{Build};
 ghost use Rattle.register.specs.Folds.{AtMost};
-ghost use Rattle.build.specs.Members.{Roomy, gramsOf, memberStep, noSums, oneLess, sumsOf, withMember};
+ghost use Rattle.build.specs.Members.{Roomy, gramsOf, memberStep, noSums, oneLess, walkedSums, withMember};
 use super::kinds::is_old;
 use super::kinds::is_unregistered;
 use model::BuildFault;
@@ -128,7 +127,7 @@ pub fn walk_members<R: Register>(
     ensures contents { λ _. ⌜ R·Register .contents (now (register .exit)) ≡ R·Register .contents (now (register .entry)) ⌝ }
     ensures restarted { λ _. ⌜ R·Register .coming (now (register .exit)) ≡ toldCourse (listed (R·Register .contents (now (register .entry)))) ⌝ }
     ensures small { λ r. ⌜ made r (λ s. Roomy s 4000) ⌝ }
-    ensures answer { λ r. ⌜ r ≡ ifWalked Build (listed (R·Register .contents (now (register .entry)))) (Ok (sumsOf reference cohort (listed (R·Register .contents (now (register .entry))) .units))) (λ f. Err (record { fault = f })) ⌝ }
+    ensures answer { λ r. ⌜ r ≡ walkedSums reference cohort (listed (R·Register .contents (now (register .entry)))) ⌝ }
 {
     let mut members = Members {
         reference,

@@ -3,11 +3,10 @@ ghost use mathlib.Core.Path.{_≡_};
 ghost use Prim.Native.Nat.{_+_, _<_, _≤_};
 ghost use denote.Ref.{now};
 ghost use Rattle.std.specs.Vec.{made};
-ghost use Rattle.std.specs.declared.result.Result.the-variants.{Err, Ok};
-ghost use Rattle.model.specs.Course.{ifWalked, toldCourse};
+ghost use Rattle.std.specs.declared.result.Result.the-variants.{Ok};
+ghost use Rattle.model.specs.Course.{toldCourse};
 ghost use Rattle.model.specs.History.{listed};
-ghost use Rattle.model.specs.declared.faults.Layer.the-variants.{Build};
-ghost use Rattle.build.specs.Runs.{Small, growStep, grown, metBy, noRun, runOf, withUnit};
+ghost use Rattle.build.specs.Runs.{Small, growStep, grown, metBy, noRun, walkedRun, withUnit};
 use super::kinds::Kind;
 use super::kinds::is_old;
 use model::BuildFault;
@@ -164,7 +163,7 @@ pub fn walk_run<R: Register>(
     ensures contents { λ _. ⌜ R·Register .contents (now (register .exit)) ≡ R·Register .contents (now (register .entry)) ⌝ }
     ensures restarted { λ _. ⌜ R·Register .coming (now (register .exit)) ≡ toldCourse (listed (R·Register .contents (now (register .entry)))) ⌝ }
     ensures small { λ r. ⌜ made r (λ s. Small s 4000) ⌝ }
-    ensures answer { λ r. ⌜ r ≡ ifWalked Build (listed (R·Register .contents (now (register .entry)))) (Ok (runOf reference quota (listed (R·Register .contents (now (register .entry))) .units))) (λ f. Err (record { fault = f })) ⌝ }
+    ensures answer { λ r. ⌜ r ≡ walkedRun reference quota (listed (R·Register .contents (now (register .entry)))) ⌝ }
 {
     let mut growing = Growing {
         reference,

@@ -1,12 +1,12 @@
 -- What is computed is the cohort in words, and there is no other.
 use mathlib.Core.Bool.{true, false}
 use mathlib.Core.List.{List}
-use mathlib.Core.Path.{_≡_, refl, sym, ap, subst, _∙_}
+use mathlib.Core.Path.{_≡_, refl, subst, _∙_}
 use Prim.Native.Nat.{ℕ, _<_}
 use native.Mathlib.Omega.{arith}
 use lib.Dec.{eqb}
 use lib.ListN.{length}
-use Rattle.std.proofs.shelf.Tests.{cond-both, cond-false, cond-true, eq-eqb, eqb-false, eqb-true, le-leb, leb-false, leb-true, lt-leb, ne-eqb}
+use Rattle.std.proofs.shelf.Tests.{cond-both, eq-eqb, eqb-false, eqb-true, le-leb, leb-false, leb-true, lt-leb, ne-eqb}
 use Rattle.model.specs.Cohort.{ComputedIsCohort, InSet, IsCohort, Joined, OneCohort, backCount, cohortOf, keptUnits, olds, reaches, registered, registeredCount, sampleCount, sampleRun, target, withRegistered}
 use Rattle.model.specs.Methods.{generation}
 use Rattle.model.specs.Units.{Listed}
@@ -44,21 +44,16 @@ module _ (reference : ℕ) (us : List Listed) where
   -- a cohort with this sample run is the one computed
   only : (d : Cohort) (s : CohortSet) → InSet reference us (sampleCount us) s d → d ≡ cohortOf reference us
   only d Absent p = absurd p
-  only d Sample p = p .is ∙ sym (cond-true _ _ _ (eq-eqb old 0 (p .none)))
+  only d Sample p = p .is ∙ rw (eq-eqb old 0 (p .none))
   only d WithRegistered p =
       let e = join-once _ _ _ (d .counts .1) (registeredCount reference us) (p .joined) registered-join in
       let enough : reaches (target us) (withRegistered reference us) ≡ true = le-leb _ _ (rw e at (p .reached)) in
-      p .is ∙ ap (λ n. record { set = WithRegistered; counts = (length (keptUnits reference us), n, 0) }) e ∙ sym (cond-true _ _ _ enough) ∙ sym (cond-false _ _ _ (some-old (p .some)))
+      p .is ∙ rw (e, some-old (p .some), enough)
   only d WithOld p =
       let e = join-once _ _ _ (d .counts .1) (registeredCount reference us) (p .joined) registered-join in
       let short : reaches (target us) (withRegistered reference us) ≡ false = lt-leb _ _ (rw e at (p .below)) in
-      let back = rw e at (p .back) in
-      let f = join-once _ _ _ (d .counts .2) (backCount reference us) back (join-count (target us) (withRegistered reference us) _) in
-      p .is
-      ∙ ap (λ n. record { set = WithOld; counts = (length (keptUnits reference us), n, d .counts .2) }) e
-      ∙ ap (λ n. record { set = WithOld; counts = (length (keptUnits reference us), registeredCount reference us, n) }) f
-      ∙ sym (cond-false _ _ _ short)
-      ∙ sym (cond-false _ _ _ (some-old (p .some)))
+      let f = join-once _ _ _ (d .counts .2) (backCount reference us) (rw e at (p .back)) (join-count (target us) (withRegistered reference us) _) in
+      p .is ∙ rw (e, f, some-old (p .some), short)
 
   pub cohort-once : (j : ℕ) (d : Cohort) → IsCohort reference us j d → (j ≡ sampleCount us) × (d ≡ cohortOf reference us)
   cohort-once j d p =

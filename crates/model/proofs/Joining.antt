@@ -106,7 +106,7 @@ module _ (us : List Listed) where
             λ j h.
             elim (cases-lt j least) [
               | inl less ↦
-                  elim (and-cases _ _ (simp plus-none at (stops five (unregistered us) 0 0 .before j less))) [
+                  elim (and-cases (leb 5 j) (reaches (target us) (generation (take j (unregistered us)))) (simp plus-none at (stops five (unregistered us) 0 0 .before j less))) [
                     | inl few ↦ absurd (omega (arith, leb-false 5 j few, h .five, within))
                     | inr low ↦ absurd (omega (arith, leb-false _ _ low, h .fifth))
                   ]

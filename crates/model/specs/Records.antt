@@ -26,7 +26,7 @@ abbrev pub allZero : List ℕ → Bool
 allZero [] = true
 allZero (b ∷ bs) = eqb b 0 && allZero bs
 
--- the bytes from i on, up to j, are zero
+-- n bytes from i on are zero
 abbrev pub zeros : List ℕ → ℕ → ℕ → Bool
 zeros bs i n = allZero (take n (drop i bs))
 

@@ -6,7 +6,7 @@ ghost use Rattle.model.specs.Classes.{setNumber};
 #[derive(Clone, Copy)]
 pub enum CohortSet {
     Absent,
-    // The sample group as it is.
+    // The sample run as it is.
     Sample,
     // Old units gone, registered units joined.
     WithRegistered,
@@ -30,7 +30,7 @@ impl CohortSet {
 #[derive(Clone, Copy)]
 pub struct Cohort {
     pub set: CohortSet,
-    // Units kept from the sample group, registered units, and old units brought back.
+    // Units kept from the sample run, registered units, and old units brought back.
     pub counts: (u16, u16, u16),
 }
 

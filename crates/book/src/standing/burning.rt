@@ -57,7 +57,7 @@ impl StandingUnit {
         }
     }
 
-    pub fn entry(&self) -> UnitEntry
+    pub(crate) fn entry(&self) -> UnitEntry
         ensures { λ r. ⌜ r ≡ standing (now (self .entry)) .entry ⌝ }
     {
         self.entry

@@ -1,6 +1,6 @@
-use mathlib.Core.Path.{ap, _∙_}
-use Rattle.model.specs.Course.{toldCourse}
+use mathlib.Core.Path.{_∙_}
 use Rattle.model.specs.History.{listed}
+use Rattle.register.proofs.Folding.{restart-moved}
 use Rattle.build.proofs.Choosing.{cohort-first, cohort-none, cohort-second, cohort-third}
 use Rattle.build.proofs.cohorts.cohort.Needs as need
 
@@ -19,7 +19,7 @@ returns-then-kept-sample g c =
     let f = c .in-Continue-sample .ensures tt in
     record {
       contents = f .contents ∙ e .contents;
-      restarted = f .restarted ∙ ap (λ p. toldCourse (listed p)) (e .contents);
+      restarted = restart-moved (e .contents) (f .restarted);
       answer =
           cohort-first (c .args .reference) (listed (g .R·Register .contents (c .args .register .now))) _ (c .all .ensures) _ (e .answer) (c .if-all-eq0 .left)
           _ (c .sample .ensures) _ (rw (e .contents) at (f .answer)) (c .if-kept-sample .taken);
@@ -33,7 +33,7 @@ returns-then-still-missing-eq0 g c =
     let two = f .contents ∙ e .contents in
     record {
       contents = h .contents ∙ two;
-      restarted = h .restarted ∙ ap (λ p. toldCourse (listed p)) two;
+      restarted = restart-moved two (h .restarted);
       answer =
           cohort-second (c .args .reference) (listed (g .R·Register .contents (c .args .register .now))) _ (c .all .ensures) _ (e .answer) (c .if-all-eq0 .left)
           _ (c .sample .ensures) _ (rw (e .contents) at (f .answer)) (c .if-kept-sample .left) _ (c .saturating-sub-missing .ensures)
@@ -50,7 +50,7 @@ returns g c =
     let three = h .contents ∙ two in
     record {
       contents = i .contents ∙ three;
-      restarted = i .restarted ∙ ap (λ p. toldCourse (listed p)) three;
+      restarted = restart-moved three (i .restarted);
       answer =
           cohort-third (c .args .reference) (listed (g .R·Register .contents (c .args .register .now))) _ (c .all .ensures) _ (e .answer) (c .if-all-eq0 .left)
           _ (c .sample .ensures) _ (rw (e .contents) at (f .answer)) (c .if-kept-sample .left) _ (c .saturating-sub-missing .ensures)

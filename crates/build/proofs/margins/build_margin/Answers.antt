@@ -1,7 +1,7 @@
-use mathlib.Core.Path.{ap, _∙_}
+use mathlib.Core.Path.{_∙_}
 use Rattle.std.proofs.shelf.Results.{err-from-errBy}
-use Rattle.model.specs.Course.{toldCourse}
 use Rattle.model.specs.History.{listed}
+use Rattle.register.proofs.Folding.{restart-moved}
 use Rattle.build.proofs.Building.{built-err, mean-is}
 use Rattle.build.proofs.margins.build_margin.Needs as need
 
@@ -22,7 +22,7 @@ returns-in-Break-margin g c =
     let p = err-from-errBy (c .from-residual-in-Break-margin .result) (c .from-residual-in-Break-margin .ensures .1) in
     record {
       contents = f .contents ∙ e .contents;
-      restarted = f .restarted ∙ ap (λ p. toldCourse (listed p)) (e .contents);
+      restarted = restart-moved (e .contents) (f .restarted);
       answer =
           rw (p .1, p .2)
           (mean-is (c .args .reference .number) (listed (g .R·Register .contents (c .args .register .now))) (g .R·Register·met .ranged (c .args .register .now))
@@ -36,7 +36,7 @@ returns g c =
     let f = c .in-Continue-sums .ensures tt in
     record {
       contents = f .contents ∙ e .contents;
-      restarted = f .restarted ∙ ap (λ p. toldCourse (listed p)) (e .contents);
+      restarted = restart-moved (e .contents) (f .restarted);
       answer =
           mean-is (c .args .reference .number) (listed (g .R·Register .contents (c .args .register .now))) (g .R·Register·met .ranged (c .args .register .now))
           (c .in-Continue-cohort .cohort) (c .in-Continue-sums .sums) (rw (c .number-day .ensures) at (e .answer)) (rw (e .contents, c .number-day .ensures) at (f .answer)) _
