@@ -25,29 +25,13 @@ use model::CombinedMargin;
 use model::Day;
 use model::Fault;
 use model::Layer;
-use model::PowerUnit;
 use model::Ratio;
 use model::Rule;
 use model::Weights;
-use register::Fold;
+use register::Passing;
+use register::PassingFold;
 use register::Register;
 use register::walk;
-
-// A walk that only goes to the end.
-#[derive(Clone, Copy)]
-pub struct Passing {}
-
-pub impl Fold for Passing as PassingFold {
-    ghost cleared = { λ s. s };
-
-    ghost step = { λ s u. s };
-
-    ghost fits = { λ s n. Unit {0} };
-
-    fn clear(&mut self) {}
-
-    fn take(&mut self, unit: &PowerUnit) {}
-}
 
 fn refusal(rule: Rule) -> CombinedFault
     ensures { λ r. ⌜ r .fault ≡ record { rule = rule; layer = Layer.Combined; place = 0; trail = 1 } ⌝ }

@@ -1,9 +1,8 @@
 // A record's bytes taken apart.
 ghost use mathlib.Core.List.{_∷_};
 ghost use mathlib.Core.Path.{_≡_};
-ghost use Prim.Native.Nat.{ℕ, _+_, _≤_, _<_};
-ghost use lib.ListN.{getD, length};
-ghost use Rattle.model.specs.Records.{allZero, burnRecord, fuelRecord, loadRecord, long, questionRecord, recordOf, strikeRecord, unitRecord, word, yearlyRecord};
+ghost use lib.ListN.{length};
+ghost use Rattle.model.specs.Records.{burnRecord, fuelRecord, loadRecord, questionRecord, recordOf, strikeRecord, unitRecord, yearlyRecord};
 use model::BurnEntry;
 use model::Fuel;
 use model::LoadGroup;
@@ -11,33 +10,9 @@ use model::Question;
 use model::Record;
 use model::UnitEntry;
 use model::YearlyPair;
-
-fn all_zero(part: &[u8]) -> bool
-    ensures { λ r. ⌜ r ≡ allZero (now (part .entry)) ⌝ }
-{
-    for byte in part {
-        if *byte != 0 {
-            return false;
-        }
-    }
-    true
-}
-
-// Two bytes from `at` on, the high one first.
-fn word(fields: &[u8], at: usize) -> u16
-    requires { ⌜ at + 2 ≤ length (now fields) ⌝ }
-    ensures { λ r. ⌜ r ≡ word (now (fields .entry)) at ⌝ }
-{
-    u16::from_be_bytes([fields[at], fields[at + 1]])
-}
-
-// Four bytes from `at` on, the highest first.
-fn long(fields: &[u8], at: usize) -> u32
-    requires { ⌜ at + 4 ≤ length (now fields) ⌝ }
-    ensures { λ r. ⌜ r ≡ long (now (fields .entry)) at ⌝ }
-{
-    u32::from_be_bytes([fields[at], fields[at + 1], fields[at + 2], fields[at + 3]])
-}
+use model::all_zero;
+use model::long_at;
+use model::word_at;
 
 // The kinds of records. `class` is the second byte, and `fields` are the thirty after it.
 
@@ -49,9 +24,9 @@ fn fuel(class: u8, fields: &[u8]) -> Option<Record>
         return None;
     }
     Some(Record::Fuel(Fuel {
-        code: word(fields, 0),
-        heat_content: long(fields, 2),
-        carbon_factor: long(fields, 6),
+        code: word_at(fields, 0),
+        heat_content: long_at(fields, 2),
+        carbon_factor: long_at(fields, 6),
     }))
 }
 
@@ -63,12 +38,12 @@ fn unit(class: u8, fields: &[u8]) -> Option<Record>
         return None;
     }
     Some(Record::Unit(UnitEntry {
-        code: word(fields, 0),
+        code: word_at(fields, 0),
         class,
-        day: long(fields, 2),
-        generation: long(fields, 6),
-        efficiency: word(fields, 10),
-        default_efficiency: word(fields, 12),
+        day: long_at(fields, 2),
+        generation: long_at(fields, 6),
+        efficiency: word_at(fields, 10),
+        default_efficiency: word_at(fields, 12),
     }))
 }
 
@@ -80,9 +55,9 @@ fn burn(class: u8, fields: &[u8]) -> Option<Record>
         return None;
     }
     Some(Record::Burn(BurnEntry {
-        unit: word(fields, 0),
-        fuel: word(fields, 2),
-        quantity: long(fields, 6),
+        unit: word_at(fields, 0),
+        fuel: word_at(fields, 2),
+        quantity: long_at(fields, 6),
     }))
 }
 
@@ -93,7 +68,7 @@ fn strike(class: u8, fields: &[u8]) -> Option<Record>
     if class != 0 || !all_zero(&fields[2..30]) {
         return None;
     }
-    Some(Record::Strike(word(fields, 0)))
+    Some(Record::Strike(word_at(fields, 0)))
 }
 
 fn load(class: u8, fields: &[u8]) -> Option<Record>
@@ -104,15 +79,15 @@ fn load(class: u8, fields: &[u8]) -> Option<Record>
         return None;
     }
     let loads = [
-        long(fields, 6),
-        long(fields, 10),
-        long(fields, 14),
-        long(fields, 18),
-        long(fields, 22),
-        long(fields, 26),
+        long_at(fields, 6),
+        long_at(fields, 10),
+        long_at(fields, 14),
+        long_at(fields, 18),
+        long_at(fields, 22),
+        long_at(fields, 26),
     ];
     Some(Record::Load(LoadGroup {
-        group: word(fields, 0),
+        group: word_at(fields, 0),
         loads,
     }))
 }
@@ -126,8 +101,8 @@ fn yearly(class: u8, fields: &[u8]) -> Option<Record>
     }
     Some(Record::Yearly(YearlyPair {
         year: class,
-        low_cost: long(fields, 2),
-        all: long(fields, 6),
+        low_cost: long_at(fields, 2),
+        all: long_at(fields, 6),
     }))
 }
 
@@ -142,7 +117,7 @@ fn question(class: u8, fields: &[u8]) -> Option<Record>
         method: class,
         operating_weight: fields[0],
         build_weight: fields[1],
-        reference: long(fields, 2),
+        reference: long_at(fields, 2),
     }))
 }
 

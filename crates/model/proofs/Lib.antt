@@ -20,3 +20,4 @@ pub mod Sounds
 pub mod Sums
 pub mod Values
 pub mod Verdicts
+pub mod Zeros

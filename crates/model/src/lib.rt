@@ -82,3 +82,10 @@ pub use records::YearlyPair;
 mod facts;
 
 pub use facts::rounding_laws;
+
+mod fields;
+
+pub use fields::all_zero;
+pub use fields::huge_at;
+pub use fields::long_at;
+pub use fields::word_at;

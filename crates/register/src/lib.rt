@@ -40,4 +40,6 @@ pub trait Register {
 mod walks;
 
 pub use walks::Fold;
+pub use walks::Passing;
+pub use walks::PassingFold;
 pub use walks::walk;

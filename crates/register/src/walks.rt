@@ -46,6 +46,22 @@ pub trait Fold {
         ensures { λ _. ⌜ now (self .exit) ≡ step (now (self .entry)) (now (unit .entry)) ⌝ };
 }
 
+// A walk that only goes to the end.
+#[derive(Clone, Copy)]
+pub struct Passing {}
+
+pub impl Fold for Passing as PassingFold {
+    ghost cleared = { λ s. s };
+
+    ghost step = { λ s u. s };
+
+    ghost fits = { λ s n. Unit {0} };
+
+    fn clear(&mut self) {}
+
+    fn take(&mut self, unit: &PowerUnit) {}
+}
+
 // Walks to the end and tells the number of units. The register's own fault comes first, then a 4,001st unit, which has the
 // asker's layer. The fold has taken the first 4,000 units, and the register is left restarted, refused or not.
 pub fn walk<R: Register, F: Fold>(

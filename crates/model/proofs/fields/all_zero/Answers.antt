@@ -1,7 +1,7 @@
 use mathlib.Core.Path.{sym}
 use native.Mathlib.Omega.{arith}
-use Rattle.intake.proofs.Zeros.{all-zero, not-all-zero}
-use Rattle.intake.proofs.decoding.all_zero.Needs as need
+use Rattle.model.proofs.Zeros.{all-zero, not-all-zero}
+use Rattle.model.proofs.fields.all_zero.Needs as need
 
 pub returns-then-byte-ne0 : need.returns-then-byte-ne0
 returns-then-byte-ne0 c = sym (not-all-zero (c .args .part .now) (c .loop-byte .byte-index) (c .loop-byte-test .taken) (c .if-byte-ne0 .taken))
