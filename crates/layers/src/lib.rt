@@ -10,3 +10,8 @@ mod imports;
 pub use imports::Import;
 pub use imports::ImportRegister;
 pub use imports::RefusedImport;
+
+mod facts;
+
+pub use facts::joins_rearrange;
+pub use facts::journals_pin_lists;

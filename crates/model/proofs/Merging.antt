@@ -1,19 +1,21 @@
 -- What holds of a merge, by one rule that follows its steps.
 use mathlib.Core.Bool.{true, false}
-use mathlib.Core.List.{List, [], _∷_, _++_, map}
+use mathlib.Core.List.{List, [], _∷_, _++_, append-nil, map}
 use mathlib.Core.Path.{_≡_, refl, sym, ap, _∙_}
-use Prim.Native.Nat.{ℕ, _+_, _≤_}
+use Prim.Native.Nat.{ℕ, _≤_}
 use native.Mathlib.Omega.{arith}
 use lib.Dec.{leb}
 use Rattle.std.proofs.shelf.Elements.{all-weaker}
-use Rattle.std.proofs.shelf.Sums.{sumBy-append, sumBy-cons}
+use Rattle.std.proofs.shelf.Sorted.{shuffled-cons, shuffled-refl, shuffled-sym, shuffled-trans}
 use Rattle.std.proofs.shelf.Tests.{cond-both, cond-false, cond-true, leb-false, leb-true}
-use Rattle.std.specs.shelf.Lists.{All, sumBy}
+use Rattle.std.specs.Slices.{Shuffled}
+use Rattle.std.specs.shelf.Lists.{All}
 use Rattle.model.specs.Course.{Course, Ending, faulty, proper, toldCourse}
-use Rattle.model.specs.Merge.{before, endsThrough, merged, mergedCourse, onlyFirst, onlySecond, onto}
+use Rattle.model.specs.Merge.{MergeRearranges, before, endsThrough, merged, mergedCourse, onlyFirst, onlySecond, onto}
 use Rattle.model.specs.Units.{Falling, Listed, Ranged, told}
-use Rattle.model.specs.declared.faults.Side.the-variants.{First, Second}
+use Rattle.model.specs.declared.faults.Side.the-variants.{First}
 use Rattle.model.specs.declared.units.PowerUnit.{PowerUnit}
+use Rattle.model.proofs.Rearranged.{to-front}
 
 module _ {A : Type 0} (day : A → ℕ) (e f : Ending) (R : List A → List A → Course A → Type 0)
     (second : (ys : List A) → R [] ys (onlySecond e ys f))
@@ -114,12 +116,15 @@ merged-alone day [] proper = refl
 merged-alone day [] (faulty _) = refl
 merged-alone day (x ∷ xs) e = refl
 
--- ---- the merge of two properly ended lists has the weight of both, whatever is weighed
+-- ---- the merge of two properly ended lists is a rearrangement of both
 
-pub merged-weight : {A : Type 0} (day : A → ℕ) (w : A → ℕ) (xs ys : List A) → sumBy w (merged day xs proper ys proper .units) ≡ sumBy w (xs ++ ys)
-merged-weight day w =
-    merged-follows day proper proper (λ xs ys m. sumBy w (m .units) ≡ sumBy w (xs ++ ys))
-    (λ ys. refl)
-    (λ x xs. omega (arith, sumBy-append w (x ∷ xs) []))
-    (λ x y xs ys m t ih. omega (arith, ih, sumBy-cons w x (m .units), sumBy-cons w x (xs ++ y ∷ ys)))
-    (λ x y xs ys m t ih. omega (arith, ih, sumBy-cons w y (m .units), sumBy-append w (x ∷ xs) ys, sumBy-append w (x ∷ xs) (y ∷ ys), sumBy-cons w y ys))
+pub merge-rearranges : MergeRearranges
+merge-rearranges =
+    merged-follows (λ u. u .day) proper proper (λ xs ys m. Shuffled (xs ++ ys) (m .units))
+    (λ ys. shuffled-refl ys)
+    (λ x xs. rw append-nil (shuffled-refl (x ∷ xs)))
+    (λ x y xs ys m t ih. shuffled-cons x (xs ++ y ∷ ys) (m .units) ih)
+    (λ x y xs ys m t ih.
+    shuffled-trans ((x ∷ xs) ++ y ∷ ys) (y ∷ ((x ∷ xs) ++ ys)) (y ∷ m .units)
+    (shuffled-sym (y ∷ ((x ∷ xs) ++ ys)) ((x ∷ xs) ++ y ∷ ys) (to-front y (x ∷ xs) ys))
+    (shuffled-cons y ((x ∷ xs) ++ ys) (m .units) ih))

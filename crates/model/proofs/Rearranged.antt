@@ -79,7 +79,7 @@ counted t x xs ys s =
     let c = sumBy-cons (λ z. cond (t .alike x z) 1 0) x xs in
     grind (arith, c, s (λ z. cond (t .alike x z) 1 0), t .itself x)
 
-to-front : {A : Type 0} (x : A) (a b : List A) → Shuffled (x ∷ (a ++ b)) (a ++ x ∷ b)
+pub to-front : {A : Type 0} (x : A) (a b : List A) → Shuffled (x ∷ (a ++ b)) (a ++ x ∷ b)
 to-front x [] b = shuffled-refl (x ∷ b)
 to-front x (y ∷ a) b =
     shuffled-trans (x ∷ y ∷ (a ++ b)) (y ∷ x ∷ (a ++ b)) (y ∷ (a ++ x ∷ b))

@@ -3,6 +3,7 @@ use mathlib.Core.Bool.{Bool, cond, _||_}
 use mathlib.Core.List.{List, [], _∷_, _++_}
 use Prim.Native.Nat.{ℕ, _*_}
 use lib.Dec.{eqb, leb, ltb}
+use Rattle.std.specs.Slices.{Shuffled}
 use Rattle.std.specs.declared.option.Option.{Option}
 use Rattle.std.specs.declared.option.Option.the-variants.{None, Some}
 use Rattle.model.specs.declared.classes.Class.the-variants.{Import}
@@ -72,3 +73,7 @@ lastly u us (faulty f) = record { units = us; ending = faulty f }
 
 abbrev pub withLast : {A : Type 0} → A → Course A → Course A
 withLast u c = lastly u (c .units) (c .ending)
+
+-- The merge of two properly ended lists is a rearrangement of both.
+abbrev pub MergeRearranges : Type 0
+MergeRearranges = (xs ys : List Listed) → Shuffled (xs ++ ys) (merged (λ (u : Listed). u .day) xs proper ys proper .units)
