@@ -11,12 +11,12 @@ pub use faults::IntakeFault;
 mod phases;
 
 pub use phases::Feature;
-pub use phases::FeatureDebug;
 pub use phases::Intake;
 pub use phases::Reply;
 
 mod lines;
 
+pub use lines::FeatureDebug;
 pub use lines::FeatureDisplay;
 pub use lines::FeatureError;
 pub use lines::Line;

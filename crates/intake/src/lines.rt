@@ -1,6 +1,5 @@
 // The line that is printed for an answer or a refusal.
 use super::Feature;
-use super::FeatureDebug;
 use super::Intake;
 use super::IntakeFault;
 use super::Reply;
@@ -55,16 +54,27 @@ pub fn respond(
     }
 }
 
+impl Feature {
+    fn text(self) -> &'static str {
+        match self {
+            Feature::LoadRecords => "load records (H) are not built yet",
+            Feature::YearlyRecords => "yearly records (Y) are not built yet",
+            Feature::SimpleMethod => "the simple method (1) is not built yet",
+            Feature::AdjustedMethod => "the simple adjusted method (2) is not built yet",
+        }
+    }
+}
+
 pub impl fmt::Display for Feature as FeatureDisplay {
     fn fmt<W: fmt::Write>(&self, f: &mut fmt::Formatter<W>) -> fmt::Result {
-        match self {
-            Feature::LoadRecords => f.write_str("load records (H) are not built yet"),
-            Feature::YearlyRecords => f.write_str("yearly records (Y) are not built yet"),
-            Feature::SimpleMethod => f.write_str("the simple method (1) is not built yet"),
-            Feature::AdjustedMethod => f.write_str(
-                "the simple adjusted method (2) is not built yet",
-            ),
-        }
+        f.write_str(self.text())
+    }
+}
+
+// A program that ends with an error shows it in this form, so that it reads as text too.
+pub impl fmt::Debug for Feature as FeatureDebug {
+    fn fmt<W: fmt::Write>(&self, f: &mut fmt::Formatter<W>) -> fmt::Result {
+        f.write_str(self.text())
     }
 }
 

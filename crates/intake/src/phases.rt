@@ -25,7 +25,7 @@ enum Phase {
 }
 
 // What the engine does not do yet.
-#[derive(Clone, Copy, Debug)]
+#[derive(Clone, Copy)]
 pub enum Feature {
     LoadRecords,
     YearlyRecords,
