@@ -1,4 +1,5 @@
 // The line that is printed for an answer or a refusal.
+ghost use Rattle.intake.specs.Responding.{Responds};
 use super::Feature;
 use super::Intake;
 use super::IntakeFault;
@@ -39,11 +40,9 @@ pub impl fmt::Display for Line as LineDisplay {
 }
 
 // Takes one piece of the stream, and gives the line that it is answered with; an accepted entry has none.
-pub fn respond(
-    intake: &mut Intake,
-    book: &mut Book,
-    piece: &[u8],
-) -> Result<Option<Line>, Feature> {
+pub fn respond(intake: &mut Intake, book: &mut Book, piece: &[u8]) -> Result<Option<Line>, Feature>
+    ensures { λ r. ⌜ Responds (now (intake .entry)) (now (intake .exit)) (now (book .entry)) (now (book .exit)) (now (piece .entry)) r ⌝ }
+{
     match intake.take(book, piece) {
         Ok(reply) => match reply {
             Reply::Entered => Ok(None),

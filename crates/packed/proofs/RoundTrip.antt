@@ -2,11 +2,11 @@
 use mathlib.Core.Bool.{Bool, true, false, cond, not, _&&_, _||_}
 use mathlib.Core.List.{List, [], _∷_, _++_, map}
 use mathlib.Core.Path.{_≡_, refl, sym, ap, _∙_, subst}
-use Prim.Native.Nat.{ℕ, _+_, _*_, _/_, _^_, _<_, _≤_}
+use Prim.Native.Nat.{ℕ, _+_, _*_, _/_, _≤_}
 use native.Mathlib.Omega.{arith}
 use lib.Dec.{eqb, leb, ltb}
-use lib.ListN.{drop, length, take}
-use Rattle.std.proofs.shelf.Lists.{drop-at, length-append, length-map, take-at}
+use lib.ListN.{length, take}
+use Rattle.std.proofs.shelf.Lists.{length-append, take-at}
 use Rattle.std.proofs.shelf.Tests.{and-from, and-parts, eq-eqb, le-leb, le-ltb, leb-true, ne-eqb, not-from-true, or-from}
 use Rattle.std.specs.shelf.Lists.{All}
 use Rattle.std.specs.Options.{valueOr}
@@ -17,7 +17,7 @@ use Rattle.model.specs.declared.classes.Class.the-variants.{Import, LowCost, Or
 use Rattle.model.specs.declared.faults.Fault.{Fault}
 use Rattle.model.specs.declared.faults.Rule.the-variants.{EmissionTooHigh, LaterDay, NoSuchDay, OutOfRange, ShortOrForeignRecord, ZeroCode}
 use Rattle.model.specs.declared.units.PowerUnit.{PowerUnit}
-use Rattle.model.specs.Calendar.{isDay, monthLength}
+use Rattle.model.specs.Calendar.{isDay}
 use Rattle.model.specs.Classes.{classNumber, isHome, numberedClass}
 use Rattle.model.specs.Course.{proper, toldCourse}
 use Rattle.model.specs.Fraction.{Frac, ratio}

@@ -32,15 +32,13 @@ fn flag(default_grams: Option<u64>) -> u8
     }
 }
 
-// The P record of a unit.
-fn record_of(unit: &PowerUnit) -> [u8; 32]
-    ensures { λ r. ⌜ r ≡ packedRecord (now (unit .entry)) ⌝ }
+// The first half of a unit's record: all but its two figures.
+fn head(unit: &PowerUnit) -> [u8; 16]
+    ensures { λ r. ⌜ r ≡ take 16 (packedRecord (now (unit .entry))) ⌝ }
 {
     let code = unit.code.to_be_bytes();
     let day = unit.day.to_be_bytes();
     let generation = unit.generation.to_be_bytes();
-    let grams = unit.grams.to_be_bytes();
-    let default = unit.default_grams.unwrap_or(0).to_be_bytes();
     [
         b'P',
         unit.class.number(),
@@ -58,23 +56,17 @@ fn record_of(unit: &PowerUnit) -> [u8; 32]
         0,
         0,
         0,
-        grams[0],
-        grams[1],
-        grams[2],
-        grams[3],
-        grams[4],
-        grams[5],
-        grams[6],
-        grams[7],
-        default[0],
-        default[1],
-        default[2],
-        default[3],
-        default[4],
-        default[5],
-        default[6],
-        default[7],
     ]
+}
+
+// Writes the P record of a unit.
+fn write_record(unit: &PowerUnit, part: &mut [u8])
+    requires { ⌜ length (now part) ≡ 32 ⌝ }
+    ensures { λ _. ⌜ now (part .exit) ≡ packedRecord (now (unit .entry)) ⌝ }
+{
+    part[0..16].copy_from_slice(&head(unit));
+    part[16..24].copy_from_slice(&unit.grams.to_be_bytes());
+    part[24..32].copy_from_slice(&unit.default_grams.unwrap_or(0).to_be_bytes());
 }
 
 // The next unit of a list that is known to end properly, so that a fault is no more than its end.
@@ -97,7 +89,7 @@ fn write<R: Register>(register: &mut R, buffer: &mut [u8])
 {
     let mut at = 0;
     while let Some(unit) = next_unit(register) {
-        buffer[at..at + RECORD].copy_from_slice(&record_of(&unit));
+        write_record(&unit, &mut buffer[at..at + RECORD]);
         at += RECORD;
     }
 }

@@ -16,7 +16,7 @@ use register::Register;
 // No day is later than the first unit's may be.
 const ANY_DAY: u32 = u32::MAX;
 
-// Of a slice that is read, every byte is known to fit.
+// Reading one byte of a slice shows that each of its bytes is below 256.
 fn fit(bytes: &[u8]) -> bool
     ensures { λ _. ⌜ ((k : ℕ) → getD (now (bytes .entry)) k 0 < 256) ⌝ }
 {

@@ -14,7 +14,7 @@ loop-unit-again g c =
     let i = c .loop-unit .inv in
     let e = c .in-Some .ensures tt in (
       e .contents ∙ i .0,
-      writing-next _ _ _ (c .in-Some .unit) (c .loop-unit .at) _ (c .loop-unit .buffer) _ _ (e .answer) (e .units) (omega (arith, i .1 .room, c .pre, c .loop-unit .kept .buffer)) (omega arith) (i .1) (c .copy-from-slice .ensures .after ∙ c .record-of .ensures),
+      writing-next _ _ _ (c .in-Some .unit) (c .loop-unit .at) _ (c .loop-unit .buffer) _ _ (e .answer) (e .units) (omega (arith, i .1 .room, c .pre, c .loop-unit .kept .buffer)) (omega arith) (i .1) (c .write-record .ensures),
     )
 
 pub returns : need.returns
