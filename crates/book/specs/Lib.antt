@@ -1,3 +1,4 @@
 pub mod Burns
 pub mod Standing
 pub mod Seen
+pub mod Facts

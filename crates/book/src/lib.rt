@@ -9,3 +9,7 @@ mod books;
 pub use books::Book;
 pub use books::BookRegister;
 pub use books::replay;
+
+mod facts;
+
+pub use facts::one_contents;

@@ -13,6 +13,7 @@ use model::UnitEntry;
 
 mod burning;
 mod emissions;
+mod parts;
 
 #[derive(Clone, Copy)]
 pub struct StandingUnit {

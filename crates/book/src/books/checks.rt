@@ -21,6 +21,9 @@ use model::Layer;
 use model::Rule;
 use model::UnitEntry;
 
+// The most fuel units in a burn.
+const QUANTITY: u32 = 10_000_000;
+
 // A burn that may be entered, and the place of its unit.
 #[derive(Clone, Copy)]
 pub(super) struct Accepted {
@@ -107,7 +110,7 @@ impl Book {
         if entry.unit == 0 || entry.fuel == 0 {
             return Err(refusal(Rule::ZeroCode, entry.unit));
         }
-        if entry.quantity > 10_000_000 {
+        if entry.quantity > QUANTITY {
             return Err(refusal(Rule::OutOfRange, entry.unit));
         }
         let Some(place) = find_unit(&self.units, entry.unit) else {

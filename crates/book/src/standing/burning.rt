@@ -5,31 +5,19 @@ ghost use mathlib.Core.Path.{_≡_};
 ghost use Prim.Native.Nat.{_+_, _*_, _<_, _≤_};
 ghost use lib.Dec.{leb};
 ghost use lib.ListN.{length};
-ghost use Rattle.std.specs.shelf.Lists.{All, sumBy};
-ghost use Rattle.model.specs.Calendar.{isDay};
-ghost use Rattle.model.specs.Plain.{any, burnsFuel, exceeds, unitInRange};
+ghost use Rattle.std.specs.shelf.Lists.{sumBy};
+ghost use Rattle.model.specs.Plain.{any, burnsFuel, exceeds};
 ghost use Rattle.model.specs.Units.{burned};
 ghost use Rattle.book.specs.Burns.{Fits};
 ghost use Rattle.book.specs.Standing.{standing};
 use super::StandingUnit;
 use model::Burn;
-use model::Fuel;
-use model::UnitEntry;
 
 // The burns that a unit has place for.
 const PLACES: usize = 4;
 
 // The most thousandths of a gram that a unit without an efficiency may emit for each MWh.
 const MOST: u64 = 10_000_000_000;
-
-const NO_BURN: Burn = Burn {
-    fuel: Fuel {
-        code: 0,
-        heat_content: 0,
-        carbon_factor: 0,
-    },
-    quantity: 0,
-};
 
 // The thousandths of a gram from a burn.
 pub(crate) fn thousandths(burn: &Burn) -> u64
@@ -43,35 +31,6 @@ pub(crate) fn thousandths(burn: &Burn) -> u64
 }
 
 impl StandingUnit {
-    // A unit as it is entered, without burns.
-    pub(crate) fn new(entry: UnitEntry) -> StandingUnit
-        requires { ⌜ 1 ≤ entry .code ⌝ }
-        requires { ⌜ isDay (entry .day) ≡ true ⌝ }
-        requires { ⌜ unitInRange entry ≡ true ⌝ }
-        ensures { λ r. ⌜ standing r ≡ record { entry = entry; burns = [] } ⌝ }
-    {
-        StandingUnit {
-            entry,
-            burns: [NO_BURN; 4],
-            count: 0,
-        }
-    }
-
-    pub(crate) fn entry(&self) -> UnitEntry
-        ensures { λ r. ⌜ r ≡ standing (now (self .entry)) .entry ⌝ }
-    {
-        self.entry
-    }
-
-    // The burns in order of entry.
-    pub fn burns(&self) -> &[Burn]
-        ensures value { λ r. ⌜ now r ≡ standing (now (self .entry)) .burns ⌝ }
-        ensures few { λ r. ⌜ length (now r) ≤ 4 ⌝ }
-        ensures fits { λ r. ⌜ All Fits (now r) ⌝ }
-    {
-        &self.burns[0..self.count]
-    }
-
     // Some burn is of the fuel with this code.
     pub(crate) fn burns_fuel(&self, code: u16) -> bool
         ensures { λ r. ⌜ r ≡ any (burnsFuel code) (standing (now (self .entry)) .burns) ⌝ }

@@ -22,7 +22,7 @@ walks-from v b c is whole = elim is [ inl e ↦ rw e whole | inr more ↦ elim m
 pub returns-in-Next : need.returns-in-Next
 returns-in-Next c =
     rw (c .in-Next .is)
-    record { told = λ es _. quiet-next .accepted (after es); life = lives-kept _ quiet-next _ _ (c .next .ensures .contents); walk = c .next .ensures .units }
+    record { told = λ es _. quiet-next .accepted (after es); life = c .next .ensures .life; walk = c .next .ensures .units }
 
 pub returns-in-Restart : need.returns-in-Restart
 returns-in-Restart c =

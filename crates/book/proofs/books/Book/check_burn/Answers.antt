@@ -45,7 +45,7 @@ returns-in-rest c =
     let unburned : any (burnsFuel (e .fuel)) (unitOf (e .unit) (p .units) .burns) ≡ false = rw none refl in
     ap Err (c .refusal-in-rest .ensures)
     ∙ refused-at (burnChecks p e) 3 past (omega arith)
-    (coded (e .unit) (e .fuel) (c .if-entry-eq0 .left) (c .if-entry-eq0-2 .left), (le-ltb 10000000 (e .quantity) (c .if-entry-gt10000000 .left), (unburned, tt)))
+    (coded (e .unit) (e .fuel) (c .if-entry-eq0 .left) (c .if-entry-eq0-2 .left), (le-ltb 10000000 (e .quantity) (c .if-entry-gt-QUANTITY .left), (unburned, tt)))
     (not-from-false _ (sym absent))
 
 pub index-requires : need.index-requires
@@ -63,7 +63,7 @@ returns-then-burns-fuel c =
     let burns : any (burnsFuel (e .fuel)) (unitOf (e .unit) (p .units) .burns) ≡ true = rw (read (need.at·returns-then-burns-fuel c .After-index) .is) (sym (c .if-burns-fuel .ensures tt)) in
     ap Err (c .refusal-then-burns-fuel .ensures)
     ∙ refused-at (burnChecks p e) 2 past (omega arith)
-    (coded (e .unit) (e .fuel) (c .if-entry-eq0 .left) (c .if-entry-eq0-2 .left), (le-ltb 10000000 (e .quantity) (c .if-entry-gt10000000 .left), tt))
+    (coded (e .unit) (e .fuel) (c .if-entry-eq0 .left) (c .if-entry-eq0-2 .left), (le-ltb 10000000 (e .quantity) (c .if-entry-gt-QUANTITY .left), tt))
     burns
 
 -- the unit stands, without this fuel
@@ -73,7 +73,7 @@ four c found =
     let e = c .args .entry .now in
     let unburned : any (burnsFuel (e .fuel)) (unitOf (e .unit) (p .units) .burns) ≡ false = rw (found .is) (sym (c .if-burns-fuel .ensures tt)) in
     let stands : true ≡ any (isUnit (e .unit)) (p .units) = rw (c .deref .ensures .value) at (c .in-Some .ensures tt .test) in
-    (coded (e .unit) (e .fuel) (c .if-entry-eq0 .left) (c .if-entry-eq0-2 .left), (le-ltb 10000000 (e .quantity) (c .if-entry-gt10000000 .left), (unburned, (not-from-true _ (sym stands), tt))))
+    (coded (e .unit) (e .fuel) (c .if-entry-eq0 .left) (c .if-entry-eq0-2 .left), (le-ltb 10000000 (e .quantity) (c .if-entry-gt-QUANTITY .left), (unburned, (not-from-true _ (sym stands), tt))))
 
 -- ---- the fuel
 
@@ -110,7 +110,7 @@ returns-then-is-full c =
 pub exceeds-requires : need.exceeds-requires
 exceeds-requires c κs =
     let fits = fuel-fits (seen (c .args .self .now)) (c .args .self .now .reached) (c .args .entry .now .fuel) in
-    rw (is-fuel (need.at·exceeds-requires c .In-Some-find-fuel)) record { quantity = c .if-entry-gt10000000 .left; heat = fits .0; carbon = fits .1 }
+    rw (is-fuel (need.at·exceeds-requires c .In-Some-find-fuel)) record { quantity = c .if-entry-gt-QUANTITY .left; heat = fits .0; carbon = fits .1 }
 
 six : (c : Else-is-full) → Found (c .args .entry .now .unit) (vec-items (c .args .self .now .units)) (c .in-Some .place) (c .index .result .now) → All (λ t. t .0 ≡ false) (take 5 (burnChecks (seen (c .args .self .now)) (c .args .entry .now))) → All (λ t. t .0 ≡ false) (take 6 (burnChecks (seen (c .args .self .now)) (c .args .entry .now)))
 six c found t =
