@@ -18,7 +18,7 @@ use model::Layer;
 use model::Rule;
 use register::Register;
 
-pub fn no_build_unit() -> BuildFault
+pub(crate) fn no_build_unit() -> BuildFault
     ensures { λ r. ⌜ r ≡ record { fault = newFault NoBuildUnit Build 0 } ⌝ }
 {
     BuildFault {
@@ -27,7 +27,7 @@ pub fn no_build_unit() -> BuildFault
 }
 
 // The cohort of the register's list. It leaves the register restarted.
-pub fn cohort<R: Register>(register: &mut R, reference: u32) -> Result<Cohort, BuildFault>
+pub(crate) fn cohort<R: Register>(register: &mut R, reference: u32) -> Result<Cohort, BuildFault>
     ensures contents { λ _. ⌜ R·Register .contents (now (register .exit)) ≡ R·Register .contents (now (register .entry)) ⌝ }
     ensures restarted { λ _. ⌜ R·Register .coming (now (register .exit)) ≡ toldCourse (listed (R·Register .contents (now (register .entry)))) ⌝ }
     ensures answer { λ r. ⌜ r ≡ walkedCohort reference (listed (R·Register .contents (now (register .entry)))) ⌝ }

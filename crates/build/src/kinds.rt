@@ -17,21 +17,21 @@ pub enum Kind {
 }
 
 // The unit started more than ten years before the reference day.
-pub fn is_old(reference: u32, unit: &PowerUnit) -> bool
+pub(crate) fn is_old(reference: u32, unit: &PowerUnit) -> bool
     ensures { λ r. ⌜ r ≡ longAgo reference (now (unit .entry)) ⌝ }
 {
     // A day may be any number of 32 bits, and the sum more.
     u64::from(unit.day) + TEN_YEARS < u64::from(reference)
 }
 
-pub fn is_unregistered(unit: &PowerUnit) -> bool
+pub(crate) fn is_unregistered(unit: &PowerUnit) -> bool
     ensures { λ r. ⌜ r ≡ belongs Kind.Unregistered 0 (now (unit .entry)) ⌝ }
 {
     unit.class.is_home() && !unit.class.is_registered()
 }
 
 impl Kind {
-    pub fn has(self, reference: u32, unit: &PowerUnit) -> bool
+    pub(crate) fn has(self, reference: u32, unit: &PowerUnit) -> bool
         ensures { λ r. ⌜ r ≡ belongs self reference (now (unit .entry)) ⌝ }
     {
         match self {

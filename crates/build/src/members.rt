@@ -119,7 +119,7 @@ impl Fold for Members as MembersFold {
 }
 
 // The sums over the cohort's members. It leaves the register restarted.
-pub fn walk_members<R: Register>(
+pub(crate) fn walk_members<R: Register>(
     register: &mut R,
     reference: u32,
     cohort: Cohort,

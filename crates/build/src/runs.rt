@@ -96,7 +96,7 @@ impl Run {
 
 impl Quota {
     // Every unregistered home unit.
-    pub fn all() -> Quota
+    pub(crate) fn all() -> Quota
         ensures { λ r. ⌜ r ≡ record { kind = Kind.Unregistered; least = 4001; missing = 0 } ⌝ }
     {
         Quota {
@@ -107,7 +107,7 @@ impl Quota {
     }
 
     // The sample run, where the unregistered home units generate so much.
-    pub fn sample(target: u64) -> Quota
+    pub(crate) fn sample(target: u64) -> Quota
         ensures { λ r. ⌜ r ≡ record { kind = Kind.Unregistered; least = 5; missing = target } ⌝ }
     {
         Quota {
@@ -118,7 +118,7 @@ impl Quota {
     }
 
     // Units that join while something is missing.
-    pub fn joining(kind: Kind, missing: u64) -> Quota
+    pub(crate) fn joining(kind: Kind, missing: u64) -> Quota
         ensures { λ r. ⌜ r ≡ record { kind = kind; least = 0; missing = missing } ⌝ }
     {
         Quota {
@@ -155,7 +155,7 @@ impl Fold for Growing as GrowingFold {
 }
 
 // The first units that meet the quota, or all of its kind. It leaves the register restarted.
-pub fn walk_run<R: Register>(
+pub(crate) fn walk_run<R: Register>(
     register: &mut R,
     reference: u32,
     quota: Quota,

@@ -113,9 +113,6 @@ module _ (meaning : List Listed → Verdict) (may : List Listed → ℕ → Type
 
 -- from the register as a part found it, with contents p, to the register as the call did, with contents q
 module _ {p q : Composition} (same : p ≡ q) where
-  pub told-moved : {d : Course PowerUnit} → d ≡ toldCourse (listed p) → d ≡ toldCourse (listed q)
-  told-moved e = rw (← same) e
-
   pub walk-moved : {r : Result ℕ RegisterFault} → r ≡ walkAnswer (listed p) → r ≡ walkAnswer (listed q)
   walk-moved e = rw (← same) e
 

@@ -9,6 +9,7 @@ pub mod Fronts
 pub mod Histories
 pub mod Joining
 pub mod Lasting
+pub mod Letters
 pub mod Lives
 pub mod Members
 pub mod Merging

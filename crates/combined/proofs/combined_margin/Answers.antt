@@ -6,8 +6,9 @@ use Rattle.model.specs.History.{listed}
 use Rattle.model.specs.declared.faults.CombinedFault.{CombinedFault}
 use Rattle.model.proofs.Cohorts.{computed-is-cohort}
 use Rattle.model.proofs.Nearness.{build-near}
+use Rattle.register.proofs.Folding.{restart-moved}
 use Rattle.combined.proofs.Parts.{built-ok, walked}
-use Rattle.combined.proofs.Whole.{answered-whole, built-moved, by-build, by-method, by-question, by-walk, meets-moved, told-moved, walk-moved}
+use Rattle.combined.proofs.Whole.{answered-whole, built-moved, by-build, by-method, by-question, by-walk, meets-moved, walk-moved}
 use Rattle.combined.proofs.combined_margin.Needs as need
 
 pub returns-in-Break-day : need.returns-in-Break-day
@@ -31,7 +32,7 @@ returns-in-Break-walk g c =
     let e = c .in-Break-walk .ensures tt in
     rw (p .1)
     (by-walk (g .M·Method .meaning m) (g .M·Method .may m) (g .M·Method .halves) (g .M·Method .alone) (w .operating) (w .build) (c .args .reference) _ _ _ alive
-    (e .contents ∙ a) (told-moved a (e .restarted))
+    (e .contents ∙ a) (restart-moved a (e .restarted))
     (c .in-Continue-day .ensures tt .2)
     (c .in-Break-walk .field-0 .0) (p .0) (p .2) (walk-moved a (e .answer)))
 
@@ -47,7 +48,7 @@ returns-in-Break-operating g c =
     let b = v .contents ∙ a in
     rw (p .1)
     (by-method (g .M·Method .meaning m) (g .M·Method .may m) (g .M·Method .halves) (g .M·Method .alone) (w .operating) (w .build) (c .args .reference) _ _ _ alive
-    (e .contents ∙ b) (told-moved b (e .restarted))
+    (e .contents ∙ b) (restart-moved b (e .restarted))
     (c .in-Continue-day .ensures tt .2)
     (walked _ _ (walk-moved a (v .answer)))
     (c .in-Break-operating .field-0 .0) (p .0) (p .2) (meets-moved b (g .M·Method .meaning m) (g .M·Method .may m) _ (e .answer)))
@@ -67,7 +68,7 @@ returns-in-Break-build g c =
     let q = c .in-Continue-day .ensures tt in
     rw (p .1)
     (by-build (g .M·Method .meaning m) (g .M·Method .may m) (g .M·Method .halves) (g .M·Method .alone) (w .operating) (w .build) (c .args .reference) _ _ _ alive
-    (e .contents ∙ d) (told-moved d (e .restarted (told-moved (sym (o .contents)) (o .restarted))))
+    (e .contents ∙ d) (restart-moved d (e .restarted (restart-moved (sym (o .contents)) (o .restarted))))
     (q .2)
     (walked _ _ (walk-moved a (v .answer)))
     (c .in-Continue-operating .operating) (meets-moved b (g .M·Method .meaning m) (g .M·Method .may m) _ (o .answer))
@@ -91,7 +92,7 @@ returns g c =
     let list = listed (g .R·Register .contents register) in
     let all = walked list _ (walk-moved a (v .answer)) in
     answered-whole (g .M·Method .meaning m) (g .M·Method .may m) (g .M·Method .halves) (g .M·Method .alone) (w .operating) (w .build) (c .args .reference) _ _ _ alive
-    (e .contents ∙ d) (told-moved d (e .restarted (told-moved (sym (o .contents)) (o .restarted))))
+    (e .contents ∙ d) (restart-moved d (e .restarted (restart-moved (sym (o .contents)) (o .restarted))))
     (q .2) all
     (c .in-Continue-operating .operating) (meets-moved b (g .M·Method .meaning m) (g .M·Method .may m) _ (o .answer))
     (c .in-Continue-build .build) (c .mixture-combined .result)
