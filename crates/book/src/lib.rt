@@ -1,4 +1,5 @@
 // The year book: up to 64 fuels and 1,000 units, each unit with up to four burns.
+#![tactic(auto)]
 
 mod standing;
 

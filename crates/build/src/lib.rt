@@ -1,4 +1,5 @@
 // The build margin: what the newest units of a grid, its build cohort, emit for each MWh.
+#![tactic(auto)]
 
 mod cohorts;
 mod kinds;

@@ -1,4 +1,6 @@
 // Many streams of records in one input, each taken by an intake and a book of its own.
+#![tactic(auto)]
+
 use anyhow::anyhow;
 use book::Book;
 use intake::{Intake, respond};

@@ -1,4 +1,6 @@
 // The combined margin: operating and build margin of a register's list, weighted.
+#![tactic(auto)]
+
 ghost use Rattle.std.specs.Prelude.{◌≡◌, ℕ, ◌+◌, ◌*◌, ◌≤◌, Some, Option, MatchResult};
 ghost use Rattle.model.specs.Fraction.{ratio};
 ghost use Rattle.model.specs.Course.{told_course};

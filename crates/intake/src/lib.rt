@@ -1,4 +1,5 @@
 // The intake: 32-byte records in, entries into a year book and answers out.
+#![tactic(auto)]
 
 mod decoding;
 

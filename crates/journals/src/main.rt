@@ -1,4 +1,6 @@
 // A journal from standard input, carried out event by event on one year book, and a line for what each event was answered with.
+#![tactic(auto)]
+
 use anyhow::anyhow;
 use book::Book;
 use intake::decode;

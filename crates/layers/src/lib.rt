@@ -1,4 +1,5 @@
 // Layers over registers: the join of two, and the import.
+#![tactic(auto)]
 
 mod joins;
 

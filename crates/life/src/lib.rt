@@ -1,4 +1,5 @@
 // The whole life of a year book: entries, strikes, restarts, nexts, packings and margin questions, each really carried out.
+#![tactic(auto)]
 
 mod calls;
 

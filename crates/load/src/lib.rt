@@ -1,4 +1,6 @@
 // Load years: for each hour of a year a load in MW, or a fault.
+#![tactic(auto)]
+
 ghost use Rattle.std.specs.Prelude.{◌≡◌, ℕ, true};
 ghost use Rattle.model.specs.LoadYears.{Hour, hour_answer, is_load, load};
 

@@ -1,4 +1,5 @@
 // Tests of margins through layers, and of the whole life of a year book.
+#![tactic(auto)]
 
 #[cfg(test)]
 mod lives;

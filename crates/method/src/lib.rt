@@ -1,4 +1,6 @@
 // Margin methods: what a method means, and the simple, the average and the simple adjusted method.
+#![tactic(auto)]
+
 ghost use Rattle.std.specs.Prelude.{◌≡◌, ℕ, ◌≤◌, Bool, List, [], length};
 ghost use Rattle.model.specs.Course.{limit, told_course};
 ghost use Rattle.model.specs.Fraction.{Frac, Within, ratio};

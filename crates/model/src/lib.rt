@@ -1,5 +1,6 @@
 // What the subject is: faults, days, classes, rounding, power units and the answers.
 // The definitions that the contracts cite are in specs/.
+#![tactic(auto)]
 
 mod faults;
 

@@ -1,4 +1,6 @@
 // Records from standard input, a line for each answer and each refusal to standard output.
+#![tactic(auto)]
+
 ghost use Rattle.std.specs.Prelude.{◌≤◌, IfOk};
 
 use book::Book;

@@ -1,4 +1,6 @@
 // A register: a list of power units, newest first, that can be walked again and again.
+#![tactic(auto)]
+
 ghost use Rattle.std.specs.Prelude.{◌≡◌, ℕ, List, []};
 ghost use Rattle.model.specs.Course.{Course, answered, tail, told_course};
 ghost use Rattle.model.specs.History.{Alive, Composition, listed};

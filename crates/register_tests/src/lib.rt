@@ -1,4 +1,5 @@
 // A register of a kind that the engine does not know, proved against the trait; and tests of registers, layers, walk and packing.
+#![tactic(auto)]
 
 mod fleets;
 

@@ -1,5 +1,6 @@
 // Worked examples: small cases carried out through public calls alone. Each contract has the exact outcome, and its proof knows of
 // the calls what their contracts say.
+#![tactic(auto)]
 
 mod packings;
 
