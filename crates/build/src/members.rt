@@ -41,8 +41,8 @@ impl Sums {
     }
 
     fn with(self, unit: &PowerUnit, grams: Option<u64>) -> Sums
-        requires grams_bound { (self.grams ≤ 4000000000000000000) × (self.generation ≤ 400000000000) }
-        requires at_most { AtMost 1000000000000000 grams }
+        requires room { (self.grams ≤ 4000000000000000000) × (self.generation ≤ 400000000000) }
+        requires few_grams { AtMost 1000000000000000 grams }
         ensures { result ≡ with_member self unit.now grams }
     {
         let generation = self.generation + u64::from(unit.generation);

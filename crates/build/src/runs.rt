@@ -72,8 +72,8 @@ impl Run {
     }
 
     fn with(self, generation: u32, old: bool) -> Run
-        requires units_bound { (self.all.units < 4000) × (self.all.generation ≤ 400000000000) }
-        requires units_bound_2 { (self.young.units < 4000) × (self.young.generation ≤ 400000000000) }
+        requires all_room { (self.all.units < 4000) × (self.all.generation ≤ 400000000000) }
+        requires young_room { (self.young.units < 4000) × (self.young.generation ≤ 400000000000) }
         ensures { result ≡ with_unit old generation self }
     {
         let all = self.all.grown(generation);

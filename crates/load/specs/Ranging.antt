@@ -1,10 +1,10 @@
 -- What a load year answers with is a load.
-use Rattle.std.specs.Prelude.{◌≡◌, ℕ, ◌+◌, ◌≤◌, true, Ok, Err, ◌≢◌, nat_le, refl}
+use Rattle.std.specs.Prelude.{◌≡◌, ℕ, ◌+◌, ◌≤◌, true, Ok, Err, ◌≢◌, ◌&&◌, List, length, nat_le, nat_lt, slice_index_or, refl}
 use Rattle.std.proofs.Common.{inl, inr, arith}
 use Rattle.std.proofs.lemmas.Bool.{cases_Bool, leb-true}
 use Rattle.model.specs.declared.faults.Fault.{Fault}
 use Rattle.model.specs.declared.faults.LoadFault.{LoadFault}
-use Rattle.model.specs.LoadYears.{Hour, most_load, fails, hour_answer, is_load, load, summed}
+use Rattle.model.specs.LoadYears.{Hour, most_load, fails, hour_answer, is_load, list_year, load, load_at, summed}
 use Rattle.model.proofs.LowCost.{load-laws}
 
 pub fault-no-load : (f : Fault) (n : ℕ) → fails f ≢ load n
@@ -35,4 +35,20 @@ summed-ranged h (load k) (load m) p q n e =
           let same : k + m ≡ n = cc in
           rw (← same) (load-laws.sum k m (p k refl) (q m refl) (leb-true (k + m) most_load low))
       | inr high ↦ absurd (fault-no-load _ n (rw high at e))
+    ]
+
+-- a number of a list is a load where the list has one
+at-ranged : (h m : ℕ) → Ranged (load_at h m)
+unfolding is_load
+at-ranged h m n e =
+    elim (cases_Bool (nat_le m most_load)) [
+      | inl low ↦ let is : load m ≡ load n = rw low at e in let same : m ≡ n = cc in rw (← same) low
+      | inr high ↦ absurd (fault-no-load _ n (rw high at e))
+    ]
+
+pub list-ranged : (hours h : ℕ) (ns : List ℕ) → Ranged (list_year hours ns h)
+list-ranged hours h ns n e =
+    elim (cases_Bool (nat_lt h hours && nat_lt h (length ns))) [
+      | inl there ↦ at-ranged h (slice_index_or ns h 0) n (rw there at e)
+      | inr past ↦ absurd (fault-no-load _ n (rw past at e))
     ]

@@ -1,7 +1,7 @@
 // A load year from a list of numbers, hour 0 first.
 ghost use Rattle.std.specs.Prelude.{◌≡◌};
 ghost use Rattle.model.specs.LoadYears.{year_hours, list_year};
-ghost use Rattle.std.proofs.Common.{rules};
+ghost use Rattle.load.specs.Ranging.{list-ranged};
 
 use super::limits::{is_load, refusal};
 use super::{HOURS, LoadYear};
@@ -30,7 +30,7 @@ impl LoadList {
 impl LoadYear for LoadList {
     ghost year = { λ l. list_year year_hours l.loads.items };
 
-    ghost ranged = { Prim.search rules };
+    ghost ranged = { λ l h. list-ranged year_hours h l.loads.items };
 
     fn load(&self, hour: u32) -> Result<u32, LoadFault> {
         let place = hour as usize;

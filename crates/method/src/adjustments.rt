@@ -58,9 +58,9 @@ impl<L> Adjusted<L> {
 
 // The means of the other units and of the low-cost ones, by the hours that each are at the margin. Rounded once.
 fn mixture(low_cost_hours: usize, other: u32, low_cost: u32) -> u32
-    requires low_cost_hours_bound { low_cost_hours ≤ year_hours }
-    requires other_bound { other ≤ 10000000 }
-    requires low_cost_bound { low_cost ≤ 10000000 }
+    requires hours { low_cost_hours ≤ year_hours }
+    requires other { other ≤ 10000000 }
+    requires low_cost { low_cost ≤ 10000000 }
     ensures { result ≡ rounded (ratio ((year_hours - low_cost_hours) * other + low_cost_hours * low_cost) year_hours) }
 {
     let sum = (HOURS - low_cost_hours) as u64 * u64::from(other)

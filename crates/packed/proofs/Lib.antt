@@ -1,7 +1,6 @@
 pub mod Counted
 pub mod Digits
 pub mod Letters
-pub mod Ranges
 pub mod RoundTrip
 pub mod Steps
 pub mod Writing

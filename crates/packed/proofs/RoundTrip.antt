@@ -119,8 +119,8 @@ module _ (bs : List ℕ) (v : Listed) (r : Reads bs (told v)) (h : InRange v) wh
   day-fits : day_fits bs ≡ true
   day-fits = rw (r.class, r.day) (days v.class v.day v.default h.dated)
 
-  numbers_fit : numbers_fit bs ≡ true
-  numbers_fit =
+  numbers-fit : numbers_fit bs ≡ true
+  numbers-fit =
       rw (r.class, r.generation, r.flag, r.default)
       (and_from _ _ (class-small v.class)
       (and_from _ _ (and_from _ _ (le-leb 1 v.generation h.some) (le-leb v.generation 100000000 h.most))
@@ -139,7 +139,7 @@ module _ (bs : List ℕ) (v : Listed) (r : Reads bs (told v)) (h : InRange v) wh
       none_then (not (is_packed bs)) (packed_fault ShortOrForeignRecord i) _ (not_from_true (is_packed bs) r.packed)
       (none_then (eqb (word bs 2) 0) (packed_fault ZeroCode i) _ (ne_eqb (word bs 2) 0 (λ e. omega (arith, e, r.code, h.coded)))
       (none_then (not (day_fits bs)) (packed_fault NoSuchDay i) _ (not_from_true (day_fits bs) day-fits)
-      (none_then (not (numbers_fit bs)) (packed_fault OutOfRange i) _ (not_from_true (numbers_fit bs) numbers_fit)
+      (none_then (not (numbers_fit bs)) (packed_fault OutOfRange i) _ (not_from_true (numbers_fit bs) numbers-fit)
       (none_then (emits_too_much bs) (packed_fault EmissionTooHigh i) _ emits-little
       (none_then (ltb latest (packed_day bs)) (packed_fault LaterDay i) None (le-ltb latest (packed_day bs) (omega (arith, r.day))) refl)))))
 

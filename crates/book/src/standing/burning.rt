@@ -69,8 +69,8 @@ impl StandingUnit {
     // The unit with one burn more.
     pub(crate) fn with_burn(self, burn: Burn) -> StandingUnit
         requires fits { Fits burn }
-        requires self_len_bound { length (standing self).burns < 4 }
-        requires burn_value { exceeds (standing self) burn ≡ false }
+        requires room { length (standing self).burns < 4 }
+        requires capped { exceeds (standing self) burn ≡ false }
         ensures { standing result ≡ record { entry = (standing self).entry; burns = (standing self).burns ++ burn ∷ [] } }
     {
         let mut burns = self.burns;

@@ -22,9 +22,9 @@ const NO_BURN: Burn = Burn {
 impl StandingUnit {
     // A unit as it is entered, without burns.
     pub(crate) fn new(entry: UnitEntry) -> StandingUnit
-        requires le_code { 1 ≤ entry.code }
-        requires day_value { is_day entry.day ≡ true }
-        requires value { unit_in_range entry ≡ true }
+        requires coded { 1 ≤ entry.code }
+        requires dated { is_day entry.day ≡ true }
+        requires ranged { unit_in_range entry ≡ true }
         ensures { standing result ≡ fresh entry }
     {
         StandingUnit {

@@ -3,6 +3,7 @@ ghost use Rattle.std.specs.Prelude.{◌≡◌, ℕ, ◌<◌, slice_index};
 ghost use Rattle.model.specs.Course.{told_course};
 ghost use Rattle.model.specs.History.{foreign};
 ghost use Rattle.model.specs.Packed.{packed_course};
+ghost use Rattle.packed.specs.Ranges.{falling as falling_bytes, ranged as ranged_bytes};
 ghost use Rattle.packed.specs.Walks.{coming, contents};
 
 use super::super::RECORD;
@@ -49,6 +50,12 @@ impl Register for Packed<'_> {
     ghost contents = { λ p. contents p };
 
     ghost coming = { λ p. coming p };
+
+    ghost ranged = { λ p. ranged_bytes p.bytes.now p.fit };
+
+    ghost falling = { λ p. falling_bytes p.bytes.now p.fit };
+
+    ghost alive = { λ p. tt };
 
     fn restart(&mut self) {
         self.rest = self.bytes;

@@ -6,4 +6,4 @@ pub returns-in-Pack : goal.returns-in-Pack
 returns-in-Pack g c = let e = c.pack.ensures in packs c.in-Pack.is e.contents e.restarted e.answer e.buffer
 
 pub returns-in-Ask : goal.returns-in-Ask
-returns-in-Ask g c = asks c.in-Ask.is c.combined-margin.ensures refl
+returns-in-Ask g c = asks c.in-Ask.is c.combined_margin.ensures refl

@@ -8,8 +8,8 @@ use Rattle.life.proofs.lives.live.Goals as goal
 pub loop-call-preserved : goal.loop-call-preserved
 loop-call-preserved g c =
     let i = c.loop-call.invariant in
-    let e = c.push-reserved.ensures in
-    (run_more _ _ _ _ c.args.calls.now c.loop-call.call-index _ (start c.args.buffer.now) _ c.loop-call-test.true i.0 c.carry-out.ensures e.items, omega arith, omega arith)
+    let e = c.push_reserved.ensures in
+    (run_more _ _ _ _ c.args.calls.now c.loop-call.call-index _ (start c.args.buffer.now) _ c.loop-call-test.true i.0 c.carry_out.ensures e.items, omega arith, omega arith)
 
 pub returns : goal.returns
 returns g c =

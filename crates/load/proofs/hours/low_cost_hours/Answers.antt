@@ -9,31 +9,31 @@ pub loop-load-preserved : goal.loop-load-preserved
 loop-load-preserved c =
     let loads = c.args.loads.now in
     let own = get_or loads c.hour.own-index 0 in
-    let step = c.saturating-add-below.ensures ∙ ap (λ n. min (c.loop-load.below + n) (2 ^ 64 - 1)) (c.from.ensures ∙ c.min.ensures) in
-    (below_more loads own c.args.low-cost c.loop-load.load-index c.loop-load.below _ c.loop-load-test.true c.loop-load.invariant.0 step c.ranges.low-cost.fits c.if-below-low-cost.false, λ some. c.if-below-low-cost.false)
+    let step = c.saturating_add-below.ensures ∙ ap (λ n. min (c.loop-load.below + n) (2 ^ 64 - 1)) (c.from.ensures ∙ c.min.ensures) in
+    (below_more loads own c.args.low_cost c.loop-load.load-index c.loop-load.below _ c.loop-load-test.true c.loop-load.invariant.0 step c.ranges.low_cost.fits c.if-below-low_cost.false, λ some. c.if-below-low_cost.false)
 
-pub hour-preserved-then-below-low-cost : goal.hour-preserved-then-below-low-cost
-hour-preserved-then-below-low-cost c =
+pub hour-preserved-then-below-low_cost : goal.hour-preserved-then-below-low_cost
+hour-preserved-then-below-low_cost c =
     let loads = c.args.loads.now in
     let own = get_or loads c.hour.own-index 0 in
-    let step = c.saturating-add-below.ensures ∙ ap (λ n. min (c.loop-load.below + n) (2 ^ 64 - 1)) (c.from.ensures ∙ c.min.ensures) in
-    let high = reached loads own c.args.low-cost c.loop-load.load-index c.loop-load.below _ c.loop-load-test.true c.loop-load.invariant.0 step c.if-below-low-cost.true in
-    omega (arith, c.hour.invariant, count_by_more_no (counts loads c.args.low-cost) loads c.hour.own-index 0 c.hour-test.true high)
+    let step = c.saturating_add-below.ensures ∙ ap (λ n. min (c.loop-load.below + n) (2 ^ 64 - 1)) (c.from.ensures ∙ c.min.ensures) in
+    let high = reached loads own c.args.low_cost c.loop-load.load-index c.loop-load.below _ c.loop-load-test.true c.loop-load.invariant.0 step c.if-below-low_cost.true in
+    omega (arith, c.hour.invariant, count_by_more_no (counts loads c.args.low_cost) loads c.hour.own-index 0 c.hour-test.true high)
 
-pub overflow-add-count : goal.overflow-add-count
-overflow-add-count c =
+pub overflow_add-count : goal.overflow_add-count
+overflow_add-count c =
     let loads = c.args.loads.now in
     let front = take c.hour.own-index loads in
-    omega (arith, c.hour.invariant, count_by-le-length (counts loads c.args.low-cost) front, length-take c.hour.own-index loads)
+    omega (arith, c.hour.invariant, count_by-le-length (counts loads c.args.low_cost) front, length-take c.hour.own-index loads)
 
 pub hour-preserved : goal.hour-preserved
 hour-preserved c =
     let loads = c.args.loads.now in
     let own = get_or loads c.hour.own-index 0 in
-    let low = never-reached loads own c.args.low-cost c.loop-load.load-index c.loop-load.below c.loop-load-test.false c.loop-load.invariant.0 (c.loop-load.invariant.1 (omega arith)) in
-    omega (arith, c.hour.invariant, count_by_more_yes (counts loads c.args.low-cost) loads c.hour.own-index 0 c.hour-test.true low)
+    let low = never-reached loads own c.args.low_cost c.loop-load.load-index c.loop-load.below c.loop-load-test.false c.loop-load.invariant.0 (c.loop-load.invariant.1 (omega arith)) in
+    omega (arith, c.hour.invariant, count_by_more_yes (counts loads c.args.low_cost) loads c.hour.own-index 0 c.hour-test.true low)
 
 pub returns : goal.returns
 returns c =
     let loads = c.args.loads.now in
-    c.hour.invariant ∙ ap (count_by (counts loads c.args.low-cost)) (take_all c.hour.own-index loads c.hour-test.false)
+    c.hour.invariant ∙ ap (count_by (counts loads c.args.low_cost)) (take_all c.hour.own-index loads c.hour-test.false)

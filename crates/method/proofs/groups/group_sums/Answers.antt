@@ -4,7 +4,7 @@ use Rattle.method.proofs.groups.group_sums.Goals as goal
 
 pub returns : goal.returns
 returns g c =
-    let e = c.in-ok-walk.ensures in
+    let e = c.in_ok-walk.ensures in
     let whole = listed (g.R.Register.contents c.args.register.now) in
     record {
       contents = e.contents;

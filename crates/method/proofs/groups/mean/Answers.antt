@@ -5,8 +5,8 @@ use Rattle.model.specs.Rounding.{rounded}
 use Rattle.model.proofs.Rounding.{rounded-cap}
 use Rattle.method.proofs.groups.mean.Goals as goal
 
-pub overflow-cast-result : goal.overflow-cast-result
-overflow-cast-result c =
+pub overflow_cast-result : goal.overflow_cast-result
+overflow_cast-result c =
     let q = c.in-Some.ratio in
     omega (arith, c.rounded.ensures.value, rounded-cap (ratio q.num q.den) 10000000 q.real (omega (arith, c.in-Some.ensures, c.requires)))
 

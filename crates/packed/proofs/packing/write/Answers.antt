@@ -12,11 +12,11 @@ loop-unit-preserved g c =
     let i = c.loop-unit.invariant in
     let e = c.in-Some.ensures in (
       e.contents ∙ i.0,
-      writing-next _ _ _ c.in-Some.unit c.loop-unit.at _ c.loop-unit.buffer _ _ e.answer e.units (omega (arith, i.1.room, c.requires, c.loop-unit.auto.buffer)) (omega arith) i.1 c.write-record.ensures,
+      writing-next _ _ _ c.in-Some.unit c.loop-unit.at _ c.loop-unit.buffer _ _ e.answer e.units (omega (arith, i.1.room, c.requires, c.loop-unit.auto.buffer)) (omega arith) i.1 c.write_record.ensures,
     )
 
 pub returns : goal.returns
 returns g c =
     let i = c.loop-unit.invariant in
-    let e = c.in-default.ensures in
+    let e = c.in_default.ensures in
     record { contents = e.contents ∙ i.0; buffer = writing-done _ _ _ _ _ (none_left _ e.answer) i.1 }

@@ -6,12 +6,12 @@ use Rattle.worked.proofs.journals.re_entered.Goals as goal
 
 pub returns : goal.returns
 returns c =
-    let none = c.in-ok-book.ensures.after in
-    let fuel = c.enter-fuel.ensures.life _ none in
-    let unit = c.enter-unit.ensures.life _ fuel in
-    let two = c.enter-unit-2.ensures.life _ unit in
-    let burned = c.enter-burn.ensures.life _ two in
+    let none = c.in_ok-book.ensures.after in
+    let fuel = c.enter_fuel.ensures.life _ none in
+    let unit = c.enter_unit.ensures.life _ fuel in
+    let two = c.enter_unit-2.ensures.life _ unit in
+    let burned = c.enter_burn.ensures.life _ two in
     let struck = c.strike.ensures.life _ burned in
-    let again = c.enter-unit-3.ensures.life _ struck in
-    let is = leaves _ (c.enter-burn-2.ensures.life _ again) in
+    let again = c.enter_unit-3.ensures.life _ struck in
+    let is = leaves _ (c.enter_burn-2.ensures.life _ again) in
     record { contents = is; list = ap (λ (p : Contents). listed (year_book p)) is }

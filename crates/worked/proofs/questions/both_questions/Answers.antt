@@ -6,6 +6,6 @@ use Rattle.worked.proofs.questions.both_questions.Goals as goal
 
 pub returns : goal.returns
 returns c =
-    let holds = ap year_book c.in-ok-book.ensures in
-    let first = c.combined-margin-first.ensures in
-    (answers holds first first-comes, answers (first.kept ∙ holds) c.combined-margin-second.ensures later-comes)
+    let holds = ap year_book c.in_ok-book.ensures in
+    let first = c.combined_margin-first.ensures in
+    (answers holds first first-comes, answers (first.kept ∙ holds) c.combined_margin-second.ensures later-comes)

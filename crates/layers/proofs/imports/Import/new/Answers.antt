@@ -6,7 +6,7 @@ use Rattle.layers.proofs.imports.Import.new.Goals as goal
 pub returns : goal.returns
 returns g c =
     record {
-      cases = sym c.in-default.ensures;
+      cases = sym c.in_default.ensures;
       contents = cc;
       coming = last-restarted _ _ c.restart.ensures.coming;
     }

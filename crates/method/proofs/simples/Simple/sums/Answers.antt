@@ -6,8 +6,8 @@ use Rattle.method.specs.Years.{no_pair}
 use Rattle.method.proofs.Tallies.{range_at}
 use Rattle.method.proofs.simples.Simple.sums.Goals as goal
 
-pub overflow-add-all : goal.overflow-add-all
-overflow-add-all c = omega (arith, c.loop-pair.invariant, range_at c.pairs-pair-items.result.now c.loop-pair.pair-index c.loop-pair-test.true c.pairs-pair-items.ensures.ranged, c.pairs-pair-items.ensures.few)
+pub overflow_add-all : goal.overflow_add-all
+overflow_add-all c = omega (arith, c.loop-pair.invariant, range_at c.pairs-pair-items.result.now c.loop-pair.pair-index c.loop-pair-test.true c.pairs-pair-items.ensures.ranged, c.pairs-pair-items.ensures.few)
 
 pub loop-pair-preserved : goal.loop-pair-preserved
 loop-pair-preserved c =

@@ -3,7 +3,7 @@ use Rattle.method.proofs.simples.Simple.sums.Given as goal
 
 abbrev pub invariant-loop-pair : goal.invariant-loop-pair
 invariant-loop-pair l =
-    (l.low-cost ≡ sum_by (λ p. p.low_cost) (take l.pair-index l.pair-items))
+    (l.low_cost ≡ sum_by (λ p. p.low_cost) (take l.pair-index l.pair-items))
     × (l.all ≡ sum_by (λ p. p.all) (take l.pair-index l.pair-items))
-    × (l.low-cost ≤ 4000000 * l.pair-index)
+    × (l.low_cost ≤ 4000000 * l.pair-index)
     × (l.all ≤ 4000000 * l.pair-index)

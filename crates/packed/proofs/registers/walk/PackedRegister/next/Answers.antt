@@ -5,12 +5,12 @@ use Rattle.model.specs.Course.{answered, tail}
 use Rattle.packed.proofs.Steps.{next-fault, next-unit}
 use Rattle.packed.proofs.registers.walk.PackedRegister.next.Goals as goal
 
-pub returns-in-err-unit : goal.returns-in-err-unit
-returns-in-err-unit c =
-    let p = err_from_is_err_and c.from-residual.result c.from-residual.ensures.1 in
+pub returns-in_err-unit : goal.returns-in_err-unit
+returns-in_err-unit c =
+    let p = err_from_is_err_and c.from_residual.result c.from_residual.ensures.1 in
     let s = c.args.self.now in
-    let some : 0 < length s.rest.now = omega (arith, eqb-false _ _ (sym c.if-is-empty.ensures)) in
-    let step = next-fault s.index s.latest _ s.rest.now _ _ some c.min.ensures c.split-at.ensures.front c.split-at.ensures.back _ c.in-err-unit.ensures in
+    let some : 0 < length s.rest.now = omega (arith, eqb-false _ _ (sym c.if-is_empty.ensures)) in
+    let step = next-fault s.index s.latest _ s.rest.now _ _ some c.min.ensures c.split_at.ensures.front c.split_at.ensures.back _ c.in_err-unit.ensures in
     record {
       contents = refl;
       units = ap (λ d. d.units) step ∙ sym (ap (λ d. tail d.units) step);
@@ -21,8 +21,8 @@ returns-in-err-unit c =
 pub returns : goal.returns
 returns c =
     let s = c.args.self.now in
-    let some : 0 < length s.rest.now = omega (arith, eqb-false _ _ (sym c.if-is-empty.ensures)) in
-    let step = next-unit s.index s.latest _ s.rest.now _ _ some c.min.ensures c.split-at.ensures.front c.split-at.ensures.back _ _ c.saturating-add-self.ensures c.in-ok-unit.ensures in
+    let some : 0 < length s.rest.now = omega (arith, eqb-false _ _ (sym c.if-is_empty.ensures)) in
+    let step = next-unit s.index s.latest _ s.rest.now _ _ some c.min.ensures c.split_at.ensures.front c.split_at.ensures.back _ _ c.saturating_add-self.ensures c.in_ok-unit.ensures in
     record {
       contents = refl;
       units = sym (ap (λ d. tail d.units) step);
