@@ -38,11 +38,11 @@ returns-in_default g c =
     }
 
 pub mixture-requires : goal.mixture-requires
-mixture-requires g c = (
-  rw c.low_cost_hours-hours.ensures (hours-few year_hours (g.L.LoadYear.year c.args.self.now.year) c.in_ok-loads.loads _ c.in_ok-loads.ensures),
-  c.in-Some.ensures.bound,
-  omega (arith, c.unwrap_or.ensures, value-small c.mean-2.result c.mean-2.ensures.bound),
-)
+mixture-requires g c = record {
+  hours = rw c.low_cost_hours-hours.ensures (hours-few year_hours (g.L.LoadYear.year c.args.self.now.year) c.in_ok-loads.loads _ c.in_ok-loads.ensures);
+  other = c.in-Some.ensures.bound;
+  low_cost = omega (arith, c.unwrap_or.ensures, value-small c.mean-2.result c.mean-2.ensures.bound);
+}
 
 pub returns : goal.returns
 returns g c =

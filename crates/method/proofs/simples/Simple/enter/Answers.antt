@@ -23,7 +23,7 @@ invariant_of-self c =
     let h = passed (pairs_of m) p c.in_ok-check.ensures in
     let free = table-room m.pairs m.count p (omega arith) m.few m.ranged m.apart h in
     let l : m.count < length m.pairs = omega arith in
-    (omega arith, (ranged-more m.pairs m.count p l h.ranged m.ranged, (apart_more m.pairs m.count p l h.apart m.apart, tt)))
+    record { few = omega arith; ranged = ranged-more m.pairs m.count p l h.ranged m.ranged; apart = apart_more m.pairs m.count p l h.apart m.apart }
 
 pub returns : goal.returns
 returns c =
