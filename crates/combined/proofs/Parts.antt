@@ -1,18 +1,17 @@
 -- What the walk, the method and the build margin answered, part by part.
-use Rattle.std.proofs.Common.{◌≡◌, ℕ, ◌+◌, ◌*◌, ◌<◌, ◌≤◌, Bool, true, false, cond, eqb, leb, List, length, Some, None, Ok, Err, Option, Result, sym, refl, ap, ◌∙◌, inl, inr, arith}
+use Rattle.std.proofs.Common.{◌≡◌, ℕ, ◌<◌, true, cond, eqb, leb, List, length, Some, None, Ok, Err, Option, Result, sym, refl, ap, ◌∙◌, inl, inr, arith}
 use Rattle.std.proofs.lemmas.Bool.{cases_Bool, cond_both, eqb-false, eqb-true, leb-true}
 use Rattle.model.specs.Cohort.{BuildNear, ComputedIsCohort, IsCohort, build_figure, built, built_unless, cohort_fault, cohort_of, exact_build, kept_units, olds, reaches, sample_count, sample_run, target, unregistered, with_registered}
 use Rattle.model.specs.Course.{Course, limit, if_walked, proper, walk_fault}
-use Rattle.model.specs.Fraction.{Frac, Within, ratio}
+use Rattle.model.specs.Fraction.{Within, ratio}
 use Rattle.model.specs.Promise.{no_cohort, shares_of, verdict_fault}
 use Rattle.model.specs.Shares.{Meets, Verdict, judged, refused, shares}
 use Rattle.model.specs.Units.{Falling, Listed, Ranged}
 use Rattle.model.specs.declared.answers.BuildMargin.{BuildMargin}
 use Rattle.model.specs.declared.answers.Cohort.{Cohort}
-use Rattle.model.specs.declared.faults.BuildFault.{BuildFault}
 use Rattle.model.specs.declared.faults.CombinedFault.{CombinedFault}
 use Rattle.model.specs.declared.faults.Fault.{Fault}
-use Rattle.model.specs.declared.faults.Layer.TheVariants.{Build, Combined, Method}
+use Rattle.model.specs.declared.faults.Layer.TheVariants.{Combined}
 use Rattle.model.specs.declared.faults.MethodFault.{MethodFault}
 use Rattle.model.specs.declared.faults.RegisterFault.{RegisterFault}
 use Rattle.model.proofs.Courses.{fit-err, fit-ok}

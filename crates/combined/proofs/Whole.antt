@@ -1,8 +1,8 @@
 -- The whole promise, from what each part answered.
-use Rattle.std.proofs.Common.{◌≡◌, ℕ, ◌+◌, ◌*◌, ◌<◌, ◌≤◌, Bool, cond, eqb, leb, List, length, Some, None, Ok, Err, Option, Result, sym, refl, ap, ◌∙◌, arith}
+use Rattle.std.proofs.Common.{◌≡◌, ℕ, ◌+◌, ◌*◌, ◌≤◌, Bool, cond, eqb, List, length, Some, None, Ok, Err, Option, Result, sym, ap, ◌∙◌}
 use Rattle.std.proofs.lemmas.Bool.{leb-true}
-use Rattle.model.specs.Cohort.{cohort_fault, cohort_of, exact_build}
-use Rattle.model.specs.Course.{Course, limit, told_course, walk_fault}
+use Rattle.model.specs.Cohort.{cohort_fault}
+use Rattle.model.specs.Course.{Course, limit, told_course}
 use Rattle.model.specs.Fraction.{Frac, Within, ratio}
 use Rattle.model.specs.History.{Alive, Composition, listed}
 use Rattle.model.specs.Promise.{Promise, asked, or_else, refusal, shares_of, verdict_fault}
@@ -13,14 +13,13 @@ use Rattle.model.specs.declared.answers.BuildMargin.{BuildMargin}
 use Rattle.model.specs.declared.answers.CombinedMargin.{CombinedMargin}
 use Rattle.model.specs.declared.faults.CombinedFault.{CombinedFault}
 use Rattle.model.specs.declared.faults.Fault.{Fault}
-use Rattle.model.specs.declared.faults.Layer.TheVariants.{Combined}
 use Rattle.model.specs.declared.faults.MethodFault.{MethodFault}
 use Rattle.model.specs.declared.faults.RegisterFault.{RegisterFault}
 use Rattle.model.specs.declared.units.PowerUnit.{PowerUnit}
 use Rattle.model.proofs.Histories.{carried, some-history}
 use Rattle.combined.specs.Builds.{built_for}
 use Rattle.combined.proofs.Mixing.{mixed-near}
-use Rattle.combined.proofs.Parts.{Built, Walked, built-refused, judged-is, meets-err, meets-ok, no-walk-fault, walk_refused, walk_answer, walked}
+use Rattle.combined.proofs.Parts.{Built, Walked, built-refused, judged-is, meets-err, meets-ok, no-walk-fault, walk_refused, walk_answer}
 
 module _ (meaning : List Listed → Verdict) (may : List Listed → ℕ → Type 0) (distance : ℕ) (alone : Bool) (wom wbm reference : ℕ)
     (entry exit : Composition) (coming : Course PowerUnit) (alive : Alive entry) (kept : exit ≡ entry) (restarted : coming ≡ told_course (listed entry)) where

@@ -11,7 +11,6 @@ use Rattle.model.specs.declared.events.Event.{Event}
 use Rattle.model.specs.declared.events.Event.TheVariants.{EnterBurn, EnterFuel, EnterUnit, Strike as StrikeUnit}
 use Rattle.model.specs.declared.faults.BookFault.{BookFault}
 use Rattle.model.specs.declared.faults.CombinedFault.{CombinedFault}
-use Rattle.model.specs.declared.faults.Fault.{Fault}
 use Rattle.model.specs.declared.faults.Layer.{Layer}
 use Rattle.model.specs.declared.faults.Layer.TheVariants.{Combined, Intake as IntakeLayer}
 use Rattle.model.specs.declared.faults.Rule.{Rule}
@@ -22,7 +21,6 @@ use Rattle.model.specs.declared.records.Record.TheVariants.{Burn, Fuel, Load, Qu
 use Rattle.book.specs.Seen.{Entered, Restarted, coming, seen}
 use Rattle.book.specs.declared.books.Book.{Book}
 use Rattle.intake.specs.declared.faults.IntakeFault.{IntakeFault}
-use Rattle.intake.specs.declared.phases.Feature.{Feature}
 use Rattle.intake.specs.declared.phases.Feature.TheVariants.{AdjustedMethod, LoadRecords, SimpleMethod, YearlyRecords}
 use Rattle.intake.specs.declared.phases.Intake.{Intake}
 use Rattle.intake.specs.declared.phases.Phase.{Phase}

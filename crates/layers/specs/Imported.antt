@@ -1,5 +1,5 @@
 -- The import's unit is in range.
-use Rattle.std.specs.Prelude.{ℕ, ◌*◌, ◌≤◌, refl}
+use Rattle.std.specs.Prelude.{ℕ, ◌≤◌, refl}
 use Rattle.std.proofs.Common.{mul-le-mul_left, arith}
 use Rattle.model.specs.Merge.{imported}
 use Rattle.model.specs.Units.{InRange}

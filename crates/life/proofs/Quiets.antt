@@ -1,7 +1,6 @@
 -- Packings and questions leave what a book holds.
-use Rattle.std.proofs.Common.{◌≡◌, ℕ, Bool, List, [], ◌∷◌, ◌++◌, length, Result, sym, refl, ap, ◌∙◌}
-use Rattle.life.specs.Lived.{Answers, Asks, Packs, State, Step, event_of, whole}
-use Rattle.life.specs.declared.calls.Answer.{Answer}
+use Rattle.std.proofs.Common.{◌≡◌, ℕ, Bool, List, [], ◌∷◌, ◌++◌, length, Result, refl, ap}
+use Rattle.life.specs.Lived.{State, Step, whole}
 use Rattle.life.specs.declared.calls.Answer.TheVariants.{Margin, Packed}
 use Rattle.life.specs.declared.calls.Call.{Call}
 use Rattle.life.specs.declared.calls.Call.TheVariants.{Ask, Pack}

@@ -1,10 +1,10 @@
 -- What the average method computes from the sums of the groups is what it means.
-use Rattle.std.proofs.Common.{◌≡◌, ℕ, ◌+◌, ◌*◌, ◌<◌, ◌≤◌, eqb, List, Ok, Err, filter, Result, sym, refl, ap, ◌∙◌, arith}
+use Rattle.std.proofs.Common.{◌≡◌, ℕ, ◌+◌, ◌<◌, Ok, Err, Result, sym, ap, ◌∙◌, arith}
 use Rattle.std.proofs.lemmas.Bool.{eq-eqb, ne_eqb}
 use Rattle.model.specs.Course.{Course, if_walked}
 use Rattle.model.specs.Faults.{new_fault}
 use Rattle.model.specs.Fraction.{ratio}
-use Rattle.model.specs.Methods.{average_answer, average_meaning, generation, grams, low_cost, other_than_low_cost}
+use Rattle.model.specs.Methods.{average_answer, average_meaning, generation, grams}
 use Rattle.model.specs.Rounding.{rounded}
 use Rattle.model.specs.Shares.{Meets, judged}
 use Rattle.model.specs.Units.{Listed}

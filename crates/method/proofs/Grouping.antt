@@ -4,7 +4,7 @@ use Rattle.std.proofs.lemmas.List.Filters.{sum_by-filter_both}
 use Rattle.std.proofs.lemmas.List.Sums.{sum_by-cons}
 use Rattle.model.specs.Classes.{is_low_cost}
 use Rattle.model.specs.Course.{Course, if_walked}
-use Rattle.model.specs.Methods.{generation, grams, low_cost, other_than_low_cost}
+use Rattle.model.specs.Methods.{low_cost, other_than_low_cost}
 use Rattle.model.specs.Rounding.{rounded}
 use Rattle.model.specs.Units.{Listed, told}
 use Rattle.model.specs.declared.faults.Layer.TheVariants.{Method}

@@ -5,7 +5,7 @@ use Rattle.std.proofs.lemmas.Bool.{le-ltb, lt-ltb}
 use Rattle.model.specs.Course.{Course, if_walked}
 use Rattle.model.specs.Fraction.{ratio}
 use Rattle.model.specs.LoadYears.{Hour, counts, loads_from, low_cost_hours, read_year}
-use Rattle.model.specs.Methods.{mean, method_fault, other_than_low_cost, unless_fault}
+use Rattle.model.specs.Methods.{method_fault, other_than_low_cost, unless_fault}
 use Rattle.model.specs.Operating.{adjusted_answer, adjusted_margin, adjusted_meaning, adjusted_verdict, hours_below, low_cost_generation, low_cost_mean}
 use Rattle.model.specs.Rounding.{rounded}
 use Rattle.model.specs.Shares.{Meets, judged}

@@ -1,7 +1,7 @@
 -- The test of a day's digits decides whether the number writes a calendar day.
-use Rattle.std.proofs.Common.{◌≡◌, ℕ, ◌+◌, ◌*◌, ◌/◌, ◌%◌, ◌<◌, ◌≤◌, Bool, true, false, leb, sym, refl, ap, subst, mod-lt, div-add-mod', arith}
+use Rattle.std.proofs.Common.{◌≡◌, ℕ, ◌/◌, ◌%◌, ◌≤◌, true, arith}
 use Rattle.std.proofs.lemmas.Bool.Decides.{nat_tests}
-use Rattle.model.specs.Calendar.{CalendarDay, is_day, leap_year, month_length}
+use Rattle.model.specs.Calendar.{CalendarDay, is_day, month_length}
 
 -- a month is at most 12, and no month has more than 31 days
 pub month-length-le : (y m : ℕ) → month_length y m ≤ 31

@@ -1,5 +1,5 @@
 -- How distances add up.
-use Rattle.std.proofs.Common.{◌≡◌, ℕ, ◌+◌, ◌*◌, ◌<◌, ◌≤◌, mul-le-mul_right, mul-le-mul_left, mul-pos, arith}
+use Rattle.std.proofs.Common.{ℕ, ◌+◌, ◌*◌, ◌<◌, ◌≤◌, mul-le-mul_right, mul-le-mul_left, mul-pos, arith}
 use native.Mathlib.Nat.{le_of_mul-le-mul_left}
 use Rattle.model.specs.Fraction.{Frac, ratio, plus, times, over, Within}
 use Rattle.model.specs.Rounding.{rounded}

@@ -1,8 +1,8 @@
 -- What a register lists is what its history tells, and every register has a history.
 use mathlib.Core.Logic.{∥∥₁_elim, ∥∥₁_map, ∥∥₁_prop}
-use Rattle.std.proofs.Common.{◌≡◌, List, [], sym, refl, ap, ◌∙◌}
-use Rattle.model.specs.History.{Alive, Carried, Composition, History, Lived, OneCourse, SomeHistory, Told, elsewhere, foreign, import, imports, join, joined, journal, listed, year_book}
-use Rattle.model.specs.Plain.{Contents, after, book_course}
+use Rattle.std.proofs.Common.{sym, refl, ap, ◌∙◌}
+use Rattle.model.specs.History.{Alive, Carried, Composition, OneCourse, SomeHistory, Told, elsewhere, foreign, import, imports, join, joined, journal, listed, year_book}
+use Rattle.model.specs.Plain.{after, book_course}
 use Rattle.model.proofs.Orders.{one-order}
 use Rattle.model.proofs.Rearranged.{same-from-shuffled}
 

@@ -1,10 +1,10 @@
 -- The merge in words, and that the words pin it.
-use Rattle.std.proofs.Common.{◌≡◌, ℕ, ◌<◌, ◌≤◌, Bool, true, false, cond, eqb, leb, List, [], ◌∷◌, ◌++◌, sym, refl, ap, ◌∙◌, inl, inr, append-nil, arith}
+use Rattle.std.proofs.Common.{◌≡◌, ℕ, ◌<◌, ◌≤◌, cond, eqb, List, [], ◌∷◌, ◌++◌, sym, refl, ap, ◌∙◌, inl, inr, append-nil, arith}
 use Rattle.std.proofs.ByRecursion.{All-weaker}
 use Rattle.std.proofs.lemmas.Bool.{cases_lt, cond_both, eq-eqb, eqb-true, leb-false, ne_eqb}
 use Rattle.std.specs.List.{AllByRecursion as All}
 use Rattle.model.specs.Course.{proper}
-use Rattle.model.specs.Merge.{MergeInWords, MergeIsInWords, OneMerge, merged, of_day}
+use Rattle.model.specs.Merge.{MergeIsInWords, OneMerge, merged, of_day}
 use Rattle.model.specs.Units.{Falling, Listed}
 use Rattle.model.proofs.Merging.{falling-merged, merged-follows}
 

@@ -1,8 +1,7 @@
 -- What holds of a course with one unit more at its end.
-use Rattle.std.proofs.Common.{◌≡◌, ℕ, ◌≤◌, List, [], ◌∷◌, ◌++◌, map, refl, arith}
+use Rattle.std.proofs.Common.{◌≡◌, ◌≤◌, List, [], ◌∷◌, ◌++◌, map, refl, arith}
 use Rattle.std.proofs.ByRecursion.{All-push}
 use Rattle.std.proofs.lemmas.List.{map-append}
-use Rattle.std.specs.List.{AllByRecursion as All}
 use Rattle.model.specs.Course.{Course, Ending, faulty, proper, told_course}
 use Rattle.model.specs.Merge.{lastly, with_last}
 use Rattle.model.specs.Units.{Falling, InRange, Listed, Ranged, told}

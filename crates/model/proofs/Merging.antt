@@ -6,8 +6,8 @@ use Rattle.std.proofs.lemmas.Bool.{cond_both, cond-false, cond-true, leb-false, 
 use Rattle.std.specs.List.Sorted.{IsPermutation}
 use Rattle.std.specs.List.{AllByRecursion as All}
 use Rattle.model.specs.Course.{Course, Ending, faulty, proper, told_course}
-use Rattle.model.specs.Merge.{MergeRearranges, before, ends_through, merged, merged_course, only_first, only_second, onto}
-use Rattle.model.specs.Units.{Falling, Listed, Ranged, told}
+use Rattle.model.specs.Merge.{MergeRearranges, before, ends_through, merged, merged_course, only_first, only_second}
+use Rattle.model.specs.Units.{Falling, Listed, told}
 use Rattle.model.specs.declared.faults.Side.TheVariants.{First}
 use Rattle.model.specs.declared.units.PowerUnit.{PowerUnit}
 use Rattle.model.proofs.Rearranged.{to_front}

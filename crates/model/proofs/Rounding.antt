@@ -1,7 +1,7 @@
 -- What every other proof knows of `rounded`. Only `rounded-is` and `rounded-floor` look into its definition.
-use Rattle.std.proofs.Common.{◌≡◌, ℕ, ◌+◌, ◌*◌, ◌/◌, ◌<◌, ◌≤◌, sym, ap, mul-le-mul_right, le_antisymm, lt_of_mul-lt-mul_right, mul-le-mul_left, arith}
+use Rattle.std.proofs.Common.{◌≡◌, ℕ, ◌+◌, ◌*◌, ◌<◌, ◌≤◌, sym, mul-le-mul_right, le_antisymm, lt_of_mul-lt-mul_right, arith}
 use native.Mathlib.Nat.{div-eq_of_lt-le, mul-div-le, lt-mul-div-succ}
-use Rattle.model.specs.Fraction.{Frac, ratio, Same, AtMost, Within}
+use Rattle.model.specs.Fraction.{Frac, ratio, AtMost, Within}
 use Rattle.model.specs.Rounding.{RoundsTo, RoundedIsFloor, RoundingLaws, rounded}
 
 pub rounded-is : (f : Frac) (n : ℕ) → RoundsTo f n → rounded f ≡ n

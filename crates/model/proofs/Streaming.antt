@@ -1,10 +1,10 @@
 -- Laws over whole streams of records.
-use Rattle.std.proofs.Common.{◌≡◌, ℕ, Bool, true, false, cond, not, ◌&&◌, List, [], ◌∷◌, is_some, Some, None, fold, Option, sym, refl, ap, ◌∙◌}
+use Rattle.std.proofs.Common.{◌≡◌, ℕ, Bool, true, false, cond, not, List, [], ◌∷◌, Some, None, fold, Option, sym, refl, ap, ◌∙◌}
 use Rattle.std.proofs.lemmas.Bool.{and_right, both_ways, cond_both}
 use Rattle.model.specs.declared.faults.Fault.{Fault}
 use Rattle.model.specs.declared.records.Record.{Record}
 use Rattle.model.specs.Records.{record_of}
-use Rattle.model.specs.Streams.{Gathered, Stand, StreamLaws, accepted, accepts, after_all, after_piece, after_read, after_record, entry_fault, if_accepted, is_question, put_in, refused_for}
+use Rattle.model.specs.Streams.{Stand, StreamLaws, accepted, accepts, after_all, after_piece, after_read, after_record, if_accepted, is_question, put_in, refused_for}
 
 stand-is : (s : Stand) (b : Bool) → s.asked ≡ b → record { gathered = s.gathered; asked = b } ≡ s
 stand-is s b e = λ i. record { gathered = s.gathered; asked = sym e i }

@@ -1,6 +1,6 @@
 -- Fractions of one value: the operations and distances do not tell them apart.
-use Rattle.std.proofs.Common.{◌≡◌, ℕ, ◌+◌, ◌*◌, ◌<◌, ◌≤◌, sym, ap, mul-le-mul_right, le_antisymm, le_of_mul-le-mul_right, arith}
-use Rattle.model.specs.Fraction.{Frac, ratio, plus, times, over, Same, Within}
+use Rattle.std.proofs.Common.{ℕ, ◌*◌, ◌<◌, sym, ap, mul-le-mul_right, le_antisymm, le_of_mul-le-mul_right, arith}
+use Rattle.model.specs.Fraction.{Frac, plus, times, over, Same, Within}
 
 pub same-trans : (f m e : Frac) → 0 < m.den → Same f m → Same m e → Same f e
 same-trans f m e pos p q =

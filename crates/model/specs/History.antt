@@ -1,5 +1,5 @@
 -- What a register is made of, and the journals of the year books in it.
-use Rattle.std.specs.Prelude.{◌≡◌, ℕ, List, [], ◌∷◌, ◌++◌}
+use Rattle.std.specs.Prelude.{◌≡◌, List}
 use Rattle.std.specs.List.Sorted.{IsPermutation}
 use Rattle.model.specs.declared.events.Event.{Event}
 use Rattle.model.specs.Course.{Course}

@@ -12,7 +12,7 @@ use Rattle.model.specs.Calendar.{is_day}
 use Rattle.model.specs.Classes.{class_number, numbered_class}
 use Rattle.model.specs.Course.{Course, faulty, if_walked, proper}
 use Rattle.model.specs.Faults.{first_of, new_fault}
-use Rattle.model.specs.Fraction.{Frac, ratio}
+use Rattle.model.specs.Fraction.{ratio}
 use Rattle.model.specs.Merge.{before}
 use Rattle.model.specs.Records.{byte, long, pieces_of, word, zeros}
 use Rattle.model.specs.Units.{Listed, told}

@@ -1,5 +1,5 @@
 -- The whole promise of the combined margin.
-use Rattle.std.specs.Prelude.{◌≡◌, ℕ, ◌+◌, ◌*◌, ◌<◌, Bool, true, cond, not, ◌&&◌, List, [], ◌∷◌, length, Some, None, Ok, Err, Option, Result, ◌==◌}
+use Rattle.std.specs.Prelude.{◌≡◌, ℕ, ◌+◌, ◌*◌, ◌<◌, Bool, cond, not, ◌&&◌, List, [], length, Some, None, Ok, Err, Option, Result, ◌==◌}
 use Rattle.model.specs.declared.answers.Cohort.{Cohort}
 use Rattle.model.specs.declared.answers.CohortSet.TheVariants.{Absent}
 use Rattle.model.specs.declared.answers.CombinedMargin.{CombinedMargin}

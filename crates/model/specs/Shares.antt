@@ -1,5 +1,5 @@
 -- What a margin method means: a share for each unit, and the exact margin as the mean of the units' intensities weighted by their shares.
-use Rattle.std.specs.Prelude.{◌≡◌, ℕ, ◌<◌, Bool, List, [], ◌∷◌, length, Ok, Err, Result}
+use Rattle.std.specs.Prelude.{◌≡◌, ℕ, ◌<◌, List, [], ◌∷◌, length, Ok, Err, Result}
 use Rattle.model.specs.declared.faults.Fault.{Fault}
 use Rattle.model.specs.declared.faults.Layer.TheVariants.{Method}
 use Rattle.model.specs.declared.faults.MethodFault.{MethodFault}

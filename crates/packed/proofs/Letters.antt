@@ -1,5 +1,5 @@
 -- What is read of a P record, by the reading of its parts.
-use Rattle.std.proofs.Common.{◌≡◌, ℕ, List, ◌∷◌, length, get_or, Some, None, Ok, Err, Result, sym, ap, subst}
+use Rattle.std.proofs.Common.{◌≡◌, ℕ, List, ◌∷◌, length, get_or, Some, None, Ok, Err, Result, ap, subst}
 use Rattle.model.specs.declared.faults.Fault.{Fault}
 use Rattle.model.specs.declared.faults.RegisterFault.{RegisterFault}
 use Rattle.model.specs.declared.units.PowerUnit.{PowerUnit}

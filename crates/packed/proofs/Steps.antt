@@ -1,16 +1,14 @@
 -- One step of a packed register's walk: the first of the pieces that are left, and those after it.
-use Rattle.std.proofs.Common.{◌≡◌, ℕ, ◌+◌, ◌/◌, ◌<◌, min, List, [], ◌∷◌, length, take, drop, Some, None, Ok, Err, Option, sym, refl, ap, ◌∙◌, inl, inr, add-one, arith}
-use Rattle.std.proofs.lemmas.List.{drop_all, length-drop, take_all}
-use Rattle.std.proofs.lemmas.Bool.{cases_lt}
+use Rattle.std.proofs.Common.{◌≡◌, ℕ, ◌+◌, ◌<◌, min, List, [], ◌∷◌, length, take, drop, Some, None, Ok, Err, Option, sym, refl, ap, ◌∙◌, arith}
 use Rattle.model.specs.declared.faults.Fault.{Fault}
 use Rattle.model.specs.declared.faults.RegisterFault.{RegisterFault}
 use Rattle.model.specs.declared.units.PowerUnit.{PowerUnit}
 use Rattle.model.specs.Course.{Course, faulty, told_course}
 use Rattle.model.specs.Merge.{before}
 use Rattle.model.specs.Packed.{or_unit, packed_day, packed_from, packed_unit, record_fault}
-use Rattle.model.specs.Records.{pieces, pieces_of}
+use Rattle.model.specs.Records.{pieces_of}
 use Rattle.model.specs.Units.{told}
-use Rattle.model.proofs.Pieces.{cut, pieces_more, pieces_none}
+use Rattle.model.proofs.Pieces.{cut, pieces_more}
 use Rattle.packed.specs.Reading.{read_as}
 
 -- The index tells nothing but the place of a fault, which stays at 2^32 − 1.

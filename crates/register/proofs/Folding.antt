@@ -8,8 +8,7 @@ use Rattle.model.specs.Course.{Course, Ending, limit, answered, faulty, if_walke
 use Rattle.model.specs.Faults.{new_fault}
 use Rattle.model.specs.Fraction.{Frac}
 use Rattle.model.specs.History.{Composition, listed}
-use Rattle.model.specs.Rounding.{rounded}
-use Rattle.model.specs.Units.{EmitsOption, InRange, Listed, Ranged, rounded_option, told}
+use Rattle.model.specs.Units.{EmitsOption, Listed, Ranged, rounded_option, told}
 use Rattle.model.specs.declared.faults.Fault.{Fault}
 use Rattle.model.specs.declared.faults.Layer.{Layer}
 use Rattle.model.specs.declared.faults.RegisterFault.{RegisterFault}

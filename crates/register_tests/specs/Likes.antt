@@ -1,9 +1,9 @@
 -- Lists of like units.
-use Rattle.std.specs.Prelude.{◌≡◌, ℕ, zero, suc, ◌-◌, ◌*◌, ◌<◌, ◌≤◌, true, List, [], ◌∷◌, map, replicate, refl}
-use Rattle.std.proofs.Common.{sym, ap, ◌∙◌, arith}
+use Rattle.std.specs.Prelude.{◌≡◌, ℕ, zero, suc, ◌-◌, ◌≤◌, true, ◌∷◌, replicate, refl}
+use Rattle.std.proofs.Common.{arith}
 use Rattle.std.specs.List.{AllByRecursion as All}
 use Rattle.model.specs.Calendar.{is_day}
-use Rattle.model.specs.Units.{Falling, InRange, Listed, Ranged, told}
+use Rattle.model.specs.Units.{Falling, InRange, Listed}
 use Rattle.register_tests.specs.Fleets.{fleet_unit}
 
 -- what holds of one holds of all

@@ -1,5 +1,5 @@
 -- From the promise of a question by the average method to its answer, once its parts are computed.
-use Rattle.std.proofs.Common.{◌≡◌, ℕ, ◌+◌, ◌*◌, ◌<◌, true, false, eqb, List, Some, None, Ok, Err, Result, sym, refl, ap, ◌∙◌, arith}
+use Rattle.std.proofs.Common.{◌≡◌, ℕ, ◌+◌, ◌*◌, true, false, eqb, None, Ok, Err, Result, ap, ◌∙◌, arith}
 use Rattle.model.specs.Cohort.{build_figure, cohort_of}
 use Rattle.model.specs.Course.{Course}
 use Rattle.model.specs.Fraction.{ratio}

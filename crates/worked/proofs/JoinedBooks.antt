@@ -1,5 +1,5 @@
 -- What the two questions come to over the joined books with the import above.
-use Rattle.std.proofs.Common.{◌≡◌, [], ◌∷◌, refl, ap, ◌∙◌, arith}
+use Rattle.std.proofs.Common.{◌≡◌, refl, arith}
 use Rattle.model.specs.Fraction.{ratio}
 use Rattle.model.specs.History.{Composition, import, join, listed, year_book}
 use Rattle.model.specs.Plain.{Contents}

@@ -1,12 +1,9 @@
 -- The two grids joined, packed and read back.
-use Rattle.std.proofs.Common.{◌≡◌, ℕ, List, [], ◌∷◌, map, take, Some, None, Ok, Err, Option, Result, sym, refl, ap, ◌∙◌, arith}
-use Rattle.model.specs.Course.{Course, answered, proper, tail, told_course}
-use Rattle.model.specs.Fraction.{ratio}
+use Rattle.std.proofs.Common.{◌≡◌, ℕ, List, [], ◌∷◌, map, Some, None, Ok, Err, Option, Result, refl, ap, ◌∙◌, arith}
+use Rattle.model.specs.Course.{Course, answered, proper, tail}
 use Rattle.model.specs.History.{Composition, foreign, join, listed}
 use Rattle.model.specs.Packed.{packed_course, packed_unit, packing_answer}
-use Rattle.model.specs.Units.{Listed, told}
-use Rattle.model.specs.declared.faults.PackingFault.{PackingFault}
-use Rattle.model.specs.declared.faults.RegisterFault.{RegisterFault}
+use Rattle.model.specs.Units.{told}
 use Rattle.model.specs.declared.units.PowerUnit.{PowerUnit}
 use Rattle.model.proofs.Rounding.{rounded-whole}
 use Rattle.worked.specs.Grids.{north_unit, south_unit}

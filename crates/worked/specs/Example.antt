@@ -1,10 +1,8 @@
 -- The worked example: what the book holds, and the two answers.
 use Rattle.std.specs.Prelude.{[], ◌∷◌}
 use Rattle.model.specs.Plain.{Contents}
-use Rattle.model.specs.declared.answers.Cohort.{Cohort}
 use Rattle.model.specs.declared.answers.CohortSet.TheVariants.{Sample, WithRegistered}
 use Rattle.model.specs.declared.answers.CombinedMargin.{CombinedMargin}
-use Rattle.model.specs.declared.units.Fuel.{Fuel}
 use Rattle.model.specs.declared.units.UnitEntry.{UnitEntry}
 use Rattle.worked.specs.Struck.{coal}
 

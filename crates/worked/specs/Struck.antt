@@ -1,5 +1,5 @@
 -- What a book holds after a unit was struck and entered again.
-use Rattle.std.specs.Prelude.{List, [], ◌∷◌, Some, None}
+use Rattle.std.specs.Prelude.{List, [], ◌∷◌, Some}
 use Rattle.model.specs.Fraction.{ratio}
 use Rattle.model.specs.Units.{Listed, Standing}
 use Rattle.model.specs.declared.classes.Class.TheVariants.{Ordinary, Registered}

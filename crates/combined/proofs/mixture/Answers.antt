@@ -1,4 +1,4 @@
-use Rattle.std.proofs.Common.{◌+◌, ◌*◌, arith}
+use Rattle.std.proofs.Common.{arith}
 use Rattle.model.specs.Fraction.{ratio}
 use Rattle.model.proofs.Rounding.{rounded-cap}
 use Rattle.combined.proofs.Mixing.{mixed-small}

@@ -1,5 +1,4 @@
 use Rattle.std.proofs.Common.{arith}
-use Rattle.model.specs.Plain.{empty}
 use Rattle.life.specs.Lived.{start, state}
 use Rattle.life.proofs.Runs.{run-all, run-lives, run_more}
 use Rattle.model.proofs.Lives.{shows-none}

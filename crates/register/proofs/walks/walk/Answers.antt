@@ -1,4 +1,4 @@
-use Rattle.std.proofs.Common.{◌≡◌, Ok, sym, refl, ap, ◌∙◌, arith}
+use Rattle.std.proofs.Common.{Ok, sym, refl, ap, ◌∙◌}
 use Rattle.model.proofs.Courses.{answered-err, answered-none}
 use Rattle.register.proofs.Folding.{answer-moved, caps, folded-moved, folding-next, folding-none, folding-over, restart-moved, walked-err, walked_many, walked-some}
 use Rattle.register.proofs.walks.walk.Goals as goal

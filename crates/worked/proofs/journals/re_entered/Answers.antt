@@ -1,4 +1,4 @@
-use Rattle.std.proofs.Common.{refl, ap, ◌∙◌}
+use Rattle.std.proofs.Common.{ap}
 use Rattle.model.specs.History.{listed, year_book}
 use Rattle.model.specs.Plain.{Contents}
 use Rattle.worked.proofs.StruckUnits.{leaves}

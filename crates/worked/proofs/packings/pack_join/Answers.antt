@@ -1,4 +1,4 @@
-use Rattle.std.proofs.Common.{◌≡◌, sym, refl, ap, ◌∙◌}
+use Rattle.std.proofs.Common.{refl, ◌∙◌}
 use native.Mathlib.Nat.{sub-zero}
 use Rattle.worked.proofs.JoinedGrids.{never, packs, reads, three}
 use Rattle.worked.specs.Grids.{north_unit, south_unit}

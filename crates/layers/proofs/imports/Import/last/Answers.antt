@@ -1,4 +1,4 @@
-use Rattle.std.proofs.Common.{◌≡◌, ◌*◌, sym, ap, arith}
+use Rattle.std.proofs.Common.{◌≡◌, ◌*◌}
 use Rattle.model.specs.Fraction.{ratio}
 use Rattle.model.specs.Rounding.{rounded}
 use Rattle.model.proofs.Rounding.{rounded-whole}

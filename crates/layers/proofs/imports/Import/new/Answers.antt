@@ -1,5 +1,4 @@
-use Rattle.std.proofs.Common.{sym, ap}
-use Rattle.model.specs.History.{import}
+use Rattle.std.proofs.Common.{sym}
 use Rattle.model.proofs.Lasting.{last-restarted}
 use Rattle.layers.proofs.imports.Import.new.Goals as goal
 

@@ -9,7 +9,7 @@ free : (c : In_ok-groups) → vec_items c.in_ok-groups.groups ≡ replicate (yea
 free c = c.in_ok-groups.ensures.items_if_clones_equal (λ y cloned. grind arith)
 
 pub invariant_of-result : goal.invariant_of-result
-invariant_of-result c = 
+invariant_of-result c =
     record {
       whole = c.in_ok-groups.ensures.len;
       ranged = free-ranged year_hours (year_hours / 6) _ (free c);

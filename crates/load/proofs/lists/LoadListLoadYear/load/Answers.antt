@@ -1,6 +1,5 @@
-use Rattle.std.proofs.Common.{rules, ◌≡◌, get_or, arith, length, ◌<◌}
+use Rattle.std.proofs.Common.{rules, arith}
 use Rattle.std.proofs.lemmas.List.{get_or_read_under}
-use Rattle.std.proofs.lemmas.Grind.{common_steps}
 use Rattle.model.specs.LoadYears.{is_load}
 use Rattle.load.proofs.lists.LoadListLoadYear.load.Goals as goal
 

@@ -1,7 +1,6 @@
-use Rattle.std.proofs.Common.{◌≡◌, refl, arith}
+use Rattle.std.proofs.Common.{arith}
 use Rattle.model.specs.Fraction.{ratio}
 use Rattle.model.specs.History.{listed}
-use Rattle.model.specs.Methods.{average_answer}
 use Rattle.model.proofs.Rounding.{rounded-cap}
 use Rattle.method.proofs.Averaging.{average-none, average-some}
 use Rattle.method.proofs.averages.AverageMethod.operating_margin.Goals as goal

@@ -1,4 +1,4 @@
-use Rattle.std.proofs.Common.{◌≡◌, true, sym, refl, arith, rules}
+use Rattle.std.proofs.Common.{◌≡◌, true, sym, refl, arith}
 use Rattle.std.proofs.lemmas.Bool.Decides.{nat_tests}
 use Rattle.model.specs.Calendar.{is_day}
 use Rattle.model.proofs.Calendar.{day-from-digits}

@@ -1,4 +1,4 @@
-use Rattle.std.proofs.Common.{sym, mod-lt, div-add-mod', arith}
+use Rattle.std.proofs.Common.{sym, arith}
 use Rattle.model.specs.Fraction.{ratio}
 use Rattle.model.specs.Rounding.{RoundsTo}
 use Rattle.model.proofs.Rounding.{rounded-is}

@@ -1,4 +1,3 @@
-use Rattle.std.proofs.Common.{sym}
 use Rattle.model.proofs.Rounding.{rounded-whole}
 use Rattle.register_tests.proofs.fleets.Fleet.unit.Goals as goal
 

@@ -1,4 +1,4 @@
-use Rattle.std.proofs.Common.{◌≡◌, sym, refl, ap, arith}
+use Rattle.std.proofs.Common.{refl, arith}
 use Rattle.register_tests.specs.Fleets.{fleet_unit}
 use Rattle.register_tests.specs.Likes.{like-more}
 use Rattle.register_tests.proofs.fleets.walk.FleetRegister.next.Goals as goal
