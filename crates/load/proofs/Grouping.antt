@@ -2,7 +2,7 @@
 use Rattle.std.proofs.Common.{◌≡◌, ℕ, ◌*◌, ◌/◌, ◌%◌, ◌<◌, ◌≤◌, Bool, true, false, cond, not, ◌&&◌, eqb, ltb, List, [], ◌∷◌, ◌++◌, length, get_or, take, Some, None, Decides, count_by, Option, Result, sym, refl, ap, ◌∙◌, inl, inr, arith}
 use mathlib.Core.Logic.{∥∥₁_map}
 use mathlib.Core.Path.{fun_ext}
-use Rattle.std.specs.List.{AllByRecursion as All}
+use Rattle.std.specs.List.{AllByRecursion}
 use Rattle.std.proofs.ByRecursion.{All-get_or, Decides-by_and}
 use Rattle.std.proofs.lemmas.List.{take_all}
 use Rattle.std.proofs.lemmas.List.Sums.{fold_push}
@@ -20,10 +20,10 @@ use Rattle.model.proofs.Firsts.{count-cons, none-head}
 abbrev pub Load : ℕ → Type 0
 Load n = is_load n ≡ true
 
-all-loads : (ns : List ℕ) → Decides (all_loads ns) (All Load ns)
+all-loads : (ns : List ℕ) → Decides (all_loads ns) (AllByRecursion Load ns)
 all-loads ns = Decides-by_and is_load Load all_loads (λ n. (λ e. e, λ e. e)) refl (λ n ns. refl) ns
 
-pub all-loads-yes : (ns : List ℕ) (i : ℕ) → length ns ≤ i → All Load (take i ns) → true ≡ all_loads ns
+pub all-loads-yes : (ns : List ℕ) (i : ℕ) → length ns ≤ i → AllByRecursion Load (take i ns) → true ≡ all_loads ns
 all-loads-yes ns i l all = sym ((all-loads ns).1 (rw (take_all i ns l) at all))
 
 pub all-loads-no : (ns : List ℕ) (i : ℕ) → i < length ns → is_load (get_or ns i 0) ≡ false → false ≡ all_loads ns

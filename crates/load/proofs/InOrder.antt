@@ -1,6 +1,6 @@
 -- Reading a year hour by hour.
 use Rattle.std.proofs.Common.{◌≡◌, ℕ, zero, suc, ◌+◌, ◌<◌, ◌≤◌, List, [], ◌∷◌, ◌++◌, length, take, set, Some, None, Ok, Err, Option, Result, sym, refl, ap, ◌∙◌, add-zero, zero-add, add-one, arith}
-use Rattle.std.specs.List.{AllByRecursion as All}
+use Rattle.std.specs.List.{AllByRecursion}
 use Rattle.std.proofs.lemmas.List.{length-set, take_all, take_more_set}
 use Rattle.model.specs.declared.faults.Fault.{Fault}
 use Rattle.model.specs.declared.faults.LoadFault.{LoadFault}
@@ -90,7 +90,7 @@ module _ (year : ℕ → Hour) where
   length-loads zero h = refl
   length-loads (suc n) h = ap suc (length-loads n (h + 1))
 
-  pub loads-capped : ((h : ℕ) → Ranged (year h)) → (n h : ℕ) → first_fault year h n ≡ None → All (λ l. l ≤ most_load) (loads_from year h n)
+  pub loads-capped : ((h : ℕ) → Ranged (year h)) → (n h : ℕ) → first_fault year h n ≡ None → AllByRecursion (λ l. l ≤ most_load) (loads_from year h n)
   loads-capped ranged zero h none = tt
   loads-capped ranged (suc n) h none =
       let parts = sound-parts (year h) (first_fault year (h + 1) n) none in

@@ -1,6 +1,6 @@
 -- The table of yearly pairs: what a pair that stands has passed, and why the table never overflows.
 use Rattle.std.proofs.Common.{◌≡◌, ℕ, zero, suc, ◌+◌, ◌<◌, ◌≤◌, Bool, true, false, cond, not, ◌&&◌, eqb, leb, List, [], ◌∷◌, length, get_or, take, set, Some, None, Ok, Err, count_by, Option, refl, inl, inr, arith}
-use Rattle.std.specs.List.{AllByRecursion as All}
+use Rattle.std.specs.List.{AllByRecursion}
 use Rattle.std.proofs.ByRecursion.{All-from_get_or, All-get_or, All-take}
 use Rattle.std.proofs.lemmas.List.{get_or-set_other, get_or-set_same, length-take, take_more_set}
 use Rattle.std.proofs.lemmas.List.Sums.{sum_by_push}
@@ -28,7 +28,7 @@ in-range p e =
     let j = and_parts (leb p.all 4000000) (leb p.low_cost p.all) k.1 in
     record { year = leb-true p.year 4 k.0; all = leb-true p.all 4000000 j.0; lower = leb-true p.low_cost p.all j.1 }
 
-pub range_at : (ps : List YearlyPair) (i : ℕ) → i < length ps → All (λ p. pair_in_range p ≡ true) ps → Ranged (get_or ps i no_pair)
+pub range_at : (ps : List YearlyPair) (i : ℕ) → i < length ps → AllByRecursion (λ p. pair_in_range p ≡ true) ps → Ranged (get_or ps i no_pair)
 range_at ps i l h = in-range (get_or ps i no_pair) (All-get_or (λ p. pair_in_range p ≡ true) ps i no_pair l h)
 
 -- ---- a pair that is not refused
@@ -69,12 +69,12 @@ years ps = count_by (is_year 0) ps + count_by (is_year 1) ps + count_by (is_year
 one-year : (y : ℕ) → y ≤ 4 → cond (eqb y 0) 1 0 + cond (eqb y 1) 1 0 + cond (eqb y 2) 1 0 + cond (eqb y 3) 1 0 + cond (eqb y 4) 1 0 ≡ 1
 one-year y l = grind (arith, nat_tests)
 
-all-years : (ps : List YearlyPair) → All (λ p. p.year ≤ 4) ps → length ps ≡ years ps
+all-years : (ps : List YearlyPair) → AllByRecursion (λ p. p.year ≤ 4) ps → length ps ≡ years ps
 all-years [] h = refl
 all-years (p ∷ ps) h =
     omega (arith, all-years ps h.1, one-year p.year h.0, count-cons (is_year 0) p ps, count-cons (is_year 1) p ps, count-cons (is_year 2) p ps, count-cons (is_year 3) p ps, count-cons (is_year 4) p ps)
 
-module _ (ps : List YearlyPair) (h : All (λ p. p.year ≤ 4) ps) (apart : (y : ℕ) → count_by (is_year y) ps ≤ 1) where
+module _ (ps : List YearlyPair) (h : AllByRecursion (λ p. p.year ≤ 4) ps) (apart : (y : ℕ) → count_by (is_year y) ps ≤ 1) where
   room : (y : ℕ) → y ≤ 4 → count_by (is_year y) ps ≡ 0 → length ps < 5
   room y l none =
       let all = all-years ps h in
@@ -95,7 +95,7 @@ module _ (ps : List YearlyPair) (h : All (λ p. p.year ≤ 4) ps) (apart : (y : 
 -- a pair that is not refused finds a free place
 pub table-room : (ps : List YearlyPair) (n : ℕ) (p : YearlyPair) → length ps ≡ 5 → n ≤ 5 → ((k : ℕ) → pair_in_range (get_or ps k no_pair) ≡ true) → ((y : ℕ) → count_by (is_year y) (take n ps) ≤ 1) → Passed (take n ps) p → n < 5
 table-room ps n p five few ranged apart h =
-    let years : All (λ (q : YearlyPair). q.year ≤ 4) (take n ps) = All-take (λ (q : YearlyPair). q.year ≤ 4) n ps (All-from_get_or (λ (q : YearlyPair). q.year ≤ 4) ps no_pair (λ k _. (in-range (get_or ps k no_pair) (ranged k)).year)) in
+    let years : AllByRecursion (λ (q : YearlyPair). q.year ≤ 4) (take n ps) = All-take (λ (q : YearlyPair). q.year ≤ 4) n ps (All-from_get_or (λ (q : YearlyPair). q.year ≤ 4) ps no_pair (λ k _. (in-range (get_or ps k no_pair) (ranged k)).year)) in
     omega (arith, room (take n ps) years apart p.year (in-range p h.ranged).year h.apart, length-take n ps)
 
 -- ---- the table with one pair more

@@ -6,7 +6,7 @@ use Rattle.std.proofs.ByRecursion.{all_kept_by}
 use Rattle.std.proofs.lemmas.List.{nil_from_length}
 use Rattle.std.proofs.lemmas.List.Sums.{count_by-le-length}
 use Rattle.std.proofs.lemmas.Bool.{cases_Bool, cases_eq, eq-eqb, ne_eqb}
-use Rattle.std.specs.List.{AllByRecursion as All}
+use Rattle.std.specs.List.{AllByRecursion}
 use Rattle.model.specs.Fraction.{Frac, Within, over, ratio, times}
 use Rattle.model.specs.LoadYears.{Hour, counts, first_fault, loads_from, low_cost_hours}
 use Rattle.model.specs.Methods.{adjusted_share, generation, low_cost, other_than_low_cost}
@@ -32,7 +32,7 @@ or_one k = cond (k == 0) 1 k
 one-some : (k : ℕ) → 0 < or_one k
 one-some k = elim (cases_eq k 0) [ inl z ↦ rw (eq-eqb k 0 z) (omega arith) | inr n ↦ rw (ne_eqb k 0 n) (omega (arith, n)) ]
 
-no-low-cost : (us : List Listed) → Ranged us → low_cost_generation us ≡ 0 → All (λ u. low_cost u ≡ false) us
+no-low-cost : (us : List Listed) → Ranged us → low_cost_generation us ≡ 0 → AllByRecursion (λ u. low_cost u ≡ false) us
 no-low-cost [] h none = tt
 no-low-cost (u ∷ us) h none =
     elim (cases_Bool (low_cost u)) [
@@ -41,7 +41,7 @@ no-low-cost (u ∷ us) h none =
     ]
 
 module _ (hours h m : ℕ) where
-  share-alike : (k l : ℕ) (us : List Listed) → All (λ u. low_cost u ≡ false) us → map (adjusted_share hours h k m) us ≡ map (adjusted_share hours h l m) us
+  share-alike : (k l : ℕ) (us : List Listed) → AllByRecursion (λ u. low_cost u ≡ false) us → map (adjusted_share hours h k m) us ≡ map (adjusted_share hours h l m) us
   share-alike k l [] none = refl
   share-alike k l (u ∷ us) none =
       let rest = share-alike k l us none.1 in

@@ -1,6 +1,6 @@
 -- A unit in range emits at most 10,000,000 g for each MWh.
 use Rattle.std.proofs.Common.{◌≡◌, ℕ, ◌*◌, ◌≤◌, true, eqb, List, [], ◌∷◌, sum_by, unwrap_or, inl, inr, mul-le-mul_left, arith}
-use Rattle.std.specs.List.{AllByRecursion as All}
+use Rattle.std.specs.List.{AllByRecursion}
 use Rattle.std.proofs.lemmas.Bool.{cases_Bool, eqb-true}
 use Rattle.std.proofs.lemmas.Bool.Decides.{nat_tests}
 use Rattle.model.specs.declared.classes.Class.TheVariants.{Import}
@@ -16,7 +16,7 @@ pub record Bounded (u : Standing) : Type 0 where
   pub short : u.entry.code ≤ 65535
   pub dated : is_day u.entry.day ≡ true
   pub ranged : unit_in_range u.entry ≡ true
-  pub factors : All (λ b. b.fuel.carbon_factor ≤ 320000) u.burns
+  pub factors : AllByRecursion (λ b. b.fuel.carbon_factor ≤ 320000) u.burns
   pub capped : u.entry.efficiency ≡ 0 → sum_by burned u.burns ≤ 10000000000 * u.entry.generation
 
 home : (n : ℕ) → n ≤ 3 → is_home (unwrap_or (numbered_class n) Import) ≡ true
@@ -27,7 +27,7 @@ lowest-le b [] h = h
 lowest-le b (d ∷ bs) h = omega arith
 
 -- the lowest efficiency, 116, keeps the highest carbon factor below the limit
-emits-efficiency : (g e : ℕ) (bs : List Burn) → 116 ≤ e → All (λ b. b.fuel.carbon_factor ≤ 320000) bs → Emits g (by_efficiency g e bs)
+emits-efficiency : (g e : ℕ) (bs : List Burn) → 116 ≤ e → AllByRecursion (λ b. b.fuel.carbon_factor ≤ 320000) bs → Emits g (by_efficiency g e bs)
 emits-efficiency g e [] h a = record { real = omega arith; cap = omega arith }
 emits-efficiency g e (b ∷ bs) h a =
     let l = mul-le-mul_left g (lowest-le b bs a.0) in
@@ -41,7 +41,7 @@ emits-unit u b =
       | inr e ↦ let h : 116 ≤ u.entry.efficiency = grind (arith, nat_tests, b.ranged, e) in rw e (emits-efficiency u.entry.generation u.entry.efficiency u.burns h b.factors)
     ]
 
-default-emits : (g e : ℕ) (bs : List Burn) → efficiency_in_range e ≡ true → All (λ b. b.fuel.carbon_factor ≤ 320000) bs → EmitsOption g (default_by g e bs)
+default-emits : (g e : ℕ) (bs : List Burn) → efficiency_in_range e ≡ true → AllByRecursion (λ b. b.fuel.carbon_factor ≤ 320000) bs → EmitsOption g (default_by g e bs)
 default-emits g e [] r a = record { real = omega arith; cap = omega arith }
 default-emits g e (b ∷ bs) r a =
     elim (cases_Bool (eqb e 0)) [

@@ -2,14 +2,14 @@
 use Rattle.std.proofs.Common.{◌≡◌, ℕ, ◌<◌, ◌≤◌, cond, eqb, List, [], ◌∷◌, ◌++◌, sym, refl, ap, ◌∙◌, inl, inr, append-nil, arith}
 use Rattle.std.proofs.ByRecursion.{All-weaker}
 use Rattle.std.proofs.lemmas.Bool.{cases_lt, cond_both, eq-eqb, eqb-true, leb-false, ne_eqb}
-use Rattle.std.specs.List.{AllByRecursion as All}
+use Rattle.std.specs.List.{AllByRecursion}
 use Rattle.model.specs.Course.{proper}
 use Rattle.model.specs.Merge.{MergeIsInWords, OneMerge, merged, of_day}
 use Rattle.model.specs.Units.{Falling, Listed}
 use Rattle.model.proofs.Merging.{falling-merged, merged-follows}
 
 -- older units have nothing of a later day
-none-of-day : (d : ℕ) (us : List Listed) → All (λ v. v.day < d) us → of_day d us ≡ []
+none-of-day : (d : ℕ) (us : List Listed) → AllByRecursion (λ v. v.day < d) us → of_day d us ≡ []
 none-of-day d [] h = refl
 none-of-day d (u ∷ us) h = rw (ne_eqb u.day d (λ e. omega (arith, e, h.0))) (none-of-day d us h.1)
 
@@ -18,7 +18,7 @@ of-day-more : (d : ℕ) (u : Listed) (us vs : List Listed) → of_day d us ≡ v
 of-day-more d u us vs e = ap (λ ws. cond (eqb u.day d) (u ∷ ws) ws) e
 
 -- a unit goes past older ones
-past : (d : ℕ) (y : Listed) (us vs : List Listed) → All (λ v. v.day < y.day) us
+past : (d : ℕ) (y : Listed) (us vs : List Listed) → AllByRecursion (λ v. v.day < y.day) us
     → cond (eqb y.day d) (y ∷ (of_day d us ++ vs)) (of_day d us ++ vs) ≡ of_day d us ++ cond (eqb y.day d) (y ∷ vs) vs
 past d y us vs older =
     cond_both (eqb y.day d) (y ∷ (of_day d us ++ vs)) (of_day d us ++ vs) (λ ws. ws ≡ of_day d us ++ cond (eqb y.day d) (y ∷ vs) vs)

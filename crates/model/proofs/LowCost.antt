@@ -1,6 +1,6 @@
 -- The laws of loads and of low-cost hours.
 use Rattle.std.proofs.Common.{◌≡◌, ℕ, zero, suc, ◌+◌, ◌<◌, ◌≤◌, min, Bool, false, cond, List, [], ◌∷◌, length, get_or, sum_by, count_by, refl, inl, inr, arith}
-use Rattle.std.specs.List.{AllByRecursion as All}
+use Rattle.std.specs.List.{AllByRecursion}
 use Rattle.std.proofs.ByRecursion.{All-weaker}
 use Rattle.std.proofs.lemmas.List.Sums.{count_by-le-length, sum_by-cons}
 use Rattle.std.proofs.lemmas.Bool.{cases_lt, le-leb, le-ltb, leb-true, lt-ltb, ltb-true}
@@ -40,7 +40,7 @@ low-cost-hours-grow = record {
 
 -- ---- the highest load
 
-highest : (x : ℕ) (xs : List ℕ) → (i : ℕ) × (i < length (x ∷ xs)) × All (λ l. l ≤ get_or (x ∷ xs) i 0) (x ∷ xs)
+highest : (x : ℕ) (xs : List ℕ) → (i : ℕ) × (i < length (x ∷ xs)) × AllByRecursion (λ l. l ≤ get_or (x ∷ xs) i 0) (x ∷ xs)
 highest x [] = (0, omega arith, (omega arith, tt))
 highest x (y ∷ ys) =
     let m = highest y ys in
@@ -49,7 +49,7 @@ highest x (y ∷ ys) =
       | inr more ↦ (suc m.0, omega (arith, m.1), (more, m.2))
     ]
 
-sum-capped : (m : ℕ) (xs : List ℕ) → All (λ l. l ≤ m) xs → sum_by (λ l. min l m) xs ≡ sum_by (λ l. l) xs
+sum-capped : (m : ℕ) (xs : List ℕ) → AllByRecursion (λ l. l ≤ m) xs → sum_by (λ l. min l m) xs ≡ sum_by (λ l. l) xs
 sum-capped m [] all = refl
 sum-capped m (x ∷ xs) all = omega (arith, sum_by-cons (λ l. min l m) x xs, sum_by-cons (λ l. l) x xs, all.0, sum-capped m xs all.1)
 

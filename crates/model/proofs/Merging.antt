@@ -4,7 +4,7 @@ use Rattle.std.proofs.ByRecursion.{All-weaker}
 use Rattle.std.proofs.lemmas.List.Sorted.{IsPermutation-cons, IsPermutation-refl, IsPermutation-sym, IsPermutation-trans}
 use Rattle.std.proofs.lemmas.Bool.{cond_both, cond-false, cond-true, leb-false, leb-true}
 use Rattle.std.specs.List.Sorted.{IsPermutation}
-use Rattle.std.specs.List.{AllByRecursion as All}
+use Rattle.std.specs.List.{AllByRecursion}
 use Rattle.model.specs.Course.{Course, Ending, faulty, proper, told_course}
 use Rattle.model.specs.Merge.{MergeRearranges, before, ends_through, merged, merged_course, only_first, only_second}
 use Rattle.model.specs.Units.{Falling, Listed, told}
@@ -31,17 +31,17 @@ module _ {A : Type 0} (day : A → ℕ) (e f : Ending) (R : List A → List A �
 -- ---- what holds of each unit of both sides holds of each unit of the merge
 
 module _ {A : Type 0} (P : A → Type 0) where
-  all-second : (e f : Ending) (ys : List A) → All P ys → All P (only_second e ys f).units
+  all-second : (e f : Ending) (ys : List A) → AllByRecursion P ys → AllByRecursion P (only_second e ys f).units
   all-second proper f ys q = q
   all-second (faulty _) f ys q = tt
 
-  all_first : (e f : Ending) (xs : List A) → All P xs → All P (only_first xs e f).units
+  all_first : (e f : Ending) (xs : List A) → AllByRecursion P xs → AllByRecursion P (only_first xs e f).units
   all_first e proper xs p = p
   all_first e (faulty _) xs p = tt
 
-  pub all-merged : (day : A → ℕ) (c d : Course A) → All P c.units → All P d.units → All P (merged_course day c d).units
+  pub all-merged : (day : A → ℕ) (c d : Course A) → AllByRecursion P c.units → AllByRecursion P d.units → AllByRecursion P (merged_course day c d).units
   all-merged day c d =
-      merged-follows day c.ending d.ending (λ xs ys m. All P xs → All P ys → All P m.units)
+      merged-follows day c.ending d.ending (λ xs ys m. AllByRecursion P xs → AllByRecursion P ys → AllByRecursion P m.units)
       (λ ys _ q. all-second c.ending d.ending ys q)
       (λ x xs p _. all_first c.ending d.ending (x ∷ xs) p)
       (λ x y xs ys m t ih p q. (p.0, ih p.1 q))
@@ -51,7 +51,7 @@ module _ {A : Type 0} (P : A → Type 0) where
 -- ---- the merge of two falling lists falls
 
 abbrev UpTo : ℕ → List Listed → Type 0
-UpTo d us = All (λ v. v.day ≤ d) us
+UpTo d us = AllByRecursion (λ v. v.day ≤ d) us
 
 up-to-more : (d e : ℕ) (us : List Listed) → d ≤ e → UpTo d us → UpTo e us
 up-to-more d e us h p = All-weaker (λ (v : Listed). v.day ≤ d) (λ v. v.day ≤ e) (λ v k. omega (arith, h, k)) us p

@@ -1,6 +1,6 @@
 -- The order of a year book's list, and what an entry, a burn and a strike do to it.
 use Rattle.std.proofs.Common.{◌≡◌, ℕ, zero, suc, ◌<◌, ◌≤◌, Bool, true, false, cond, not, List, [], ◌∷◌, ◌++◌, map, length, get_or, take, drop, set, count_by, filter, sym, refl, ap, ◌∙◌, inl, inr, arith}
-use Rattle.std.specs.List.{insert, remove, AllByRecursion as All}
+use Rattle.std.specs.List.{insert, remove, AllByRecursion}
 use Rattle.std.proofs.lemmas.List.{nil_from_length}
 use Rattle.std.proofs.ByRecursion.{All-append, All-drop, all_kept_by, All-map, All-take, All-weaker}
 use Rattle.std.proofs.lemmas.List.Sums.{sum_by-cons}
@@ -85,7 +85,7 @@ burned-set c b (x ∷ xs) (suc i) l is once =
 
 -- ---- a list in order is known by what it holds
 
-all-at : {A : Type 0} (P : A → Type 0) (a b : List A) (x : A) → All P (a ++ x ∷ b) → P x
+all-at : {A : Type 0} (P : A → Type 0) (a b : List A) (x : A) → AllByRecursion P (a ++ x ∷ b) → P x
 all-at P [] b x h = h.0
 all-at P (y ∷ a) b x h = all-at P a b x h.1
 

@@ -3,7 +3,7 @@ use Rattle.std.proofs.Common.{◌≡◌, ℕ, ◌≤◌, Bool, true, false, cond
 use mathlib.Core.HLevel.{Unit-prop, →_prop, ×_prop}
 use mathlib.Core.Logic.{∥∥₁_elim}
 use native.Mathlib.Bridge.{le_prop}
-use Rattle.std.specs.List.{AllByRecursion as All}
+use Rattle.std.specs.List.{AllByRecursion}
 use Rattle.std.proofs.ByRecursion.{All-map, All-push, All-weaker}
 use Rattle.std.proofs.lemmas.Bool.Decides.{nat_tests}
 use Rattle.model.specs.declared.events.Event.{Event}
@@ -23,7 +23,7 @@ FuelFits f = (f.heat_content ≤ 100000) × (f.carbon_factor ≤ 320000)
 fits-from-range : (f : Fuel) → fuel_in_range f ≡ true → FuelFits f
 fits-from-range f r = (grind (arith, nat_tests, r), grind (arith, nat_tests, r))
 
-changed-fits : (p : Contents) (v : Event) → is_ok (verdict p v) ≡ true → All FuelFits p.fuels → All FuelFits (changed p v).fuels
+changed-fits : (p : Contents) (v : Event) → is_ok (verdict p v) ≡ true → AllByRecursion FuelFits p.fuels → AllByRecursion FuelFits (changed p v).fuels
 changed-fits p (EnterFuel f) ok a = All-push FuelFits p.fuels f a (fits-from-range f (passed-fuel p f ok).ranged)
 changed-fits p (EnterUnit e) ok a = a
 changed-fits p (EnterBurn e) ok a = a
@@ -34,7 +34,7 @@ changed-fits p Packing ok a = a
 changed-fits p Question ok a = a
 
 -- what holds of every element and of the default holds of the first that passes
-first-all : {A : Type 0} (P : A → Type 0) (p : A → Bool) (d : A) (xs : List A) → P d → All P xs → P (first_by p d xs)
+first-all : {A : Type 0} (P : A → Type 0) (p : A → Bool) (d : A) (xs : List A) → P d → AllByRecursion P xs → P (first_by p d xs)
 first-all P p d [] h a = h
 first-all P p d (x ∷ xs) h a =
     elim (p x) as (λ b. P (cond b x (first_by p d xs))) [ true ↦ a.0 | false ↦ first-all P p d xs h a.1 ]
@@ -42,11 +42,11 @@ first-all P p d (x ∷ xs) h a =
 pub fuel-fits : (p : Contents) → Reached p → (c : ℕ) → FuelFits (fuel_of c p.fuels)
 fuel-fits p reached c =
     ∥∥₁_elim reached (×_prop le_prop le_prop)
-    (λ s. first-all FuelFits (is_fuel c) no_fuel p.fuels (omega arith, omega arith) (rw s.1.fuels (run-keeps (λ q. All FuelFits q.fuels) changed-fits s.0 empty tt)))
+    (λ s. first-all FuelFits (is_fuel c) no_fuel p.fuels (omega arith, omega arith) (rw s.1.fuels (run-keeps (λ q. AllByRecursion FuelFits q.fuels) changed-fits s.0 empty tt)))
 
 -- ---- units
 
-all_prop : {A : Type 0} (P : A → Type 0) → ((x : A) → IsProp (P x)) → (xs : List A) → IsProp (All P xs)
+all_prop : {A : Type 0} (P : A → Type 0) → ((x : A) → IsProp (P x)) → (xs : List A) → IsProp (AllByRecursion P xs)
 all_prop P p [] = Unit-prop
 all_prop P p (x ∷ xs) = ×_prop (p x) (all_prop P p xs)
 

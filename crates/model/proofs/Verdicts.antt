@@ -1,6 +1,6 @@
 -- An event that is not refused has passed every check.
 use Rattle.std.proofs.Common.{◌≡◌, ℕ, zero, suc, ◌<◌, ◌≤◌, Bool, true, false, List, [], ◌∷◌, length, get_or, take, is_ok, Ok, Err, count_by, Result, sym, refl, ap, inl, inr, arith}
-use Rattle.std.specs.List.{AllByRecursion as All}
+use Rattle.std.specs.List.{AllByRecursion}
 use Rattle.std.proofs.lemmas.Bool.{both_ways, cases_Bool, eqb-false, leb-false, ltb-false, not-false}
 use Rattle.model.specs.declared.events.Event.TheVariants.{EnterBurn, EnterFuel, EnterUnit}
 use Rattle.model.specs.declared.faults.BookFault.{BookFault}
@@ -11,7 +11,7 @@ use Rattle.model.specs.declared.units.UnitEntry.{UnitEntry}
 use Rattle.model.specs.Calendar.{is_day}
 use Rattle.model.specs.Plain.{Contents, any, burn_checks, burn_of, exceeds, first, fuel_checks, fuel_in_range, is_fuel, is_unit, unit_checks, unit_in_range, unit_of, verdict}
 
-pub passed : (cs : List (Bool × Fault)) → is_ok (first cs) ≡ true → All (λ c. c.0 ≡ false) cs
+pub passed : (cs : List (Bool × Fault)) → is_ok (first cs) ≡ true → AllByRecursion (λ c. c.0 ≡ false) cs
 passed [] ok = tt
 passed (c ∷ cs) ok =
     elim (cases_Bool c.0) [
@@ -66,11 +66,11 @@ passed-burn p e ok =
     }
 
 -- The first test that holds names the refusal, and where none does there is none.
-pub refused-at : (cs : List (Bool × Fault)) (k : ℕ) (d : Bool × Fault) → k < length cs → All (λ c. c.0 ≡ false) (take k cs) → (get_or cs k d).0 ≡ true → Err (record { fault = (get_or cs k d).1 }) ≡ first cs
+pub refused-at : (cs : List (Bool × Fault)) (k : ℕ) (d : Bool × Fault) → k < length cs → AllByRecursion (λ c. c.0 ≡ false) (take k cs) → (get_or cs k d).0 ≡ true → Err (record { fault = (get_or cs k d).1 }) ≡ first cs
 refused-at [] k d l before here = absurd (omega arith)
 refused-at (c ∷ cs) zero d l before here = rw here refl
 refused-at (c ∷ cs) (suc k) d l before here = rw before.0 (refused-at cs k d (omega arith) before.1 here)
 
-pub accepted : (cs : List (Bool × Fault)) → All (λ c. c.0 ≡ false) cs → Ok tt ≡ first cs
+pub accepted : (cs : List (Bool × Fault)) → AllByRecursion (λ c. c.0 ≡ false) cs → Ok tt ≡ first cs
 accepted [] all = refl
 accepted (c ∷ cs) all = rw all.0 (accepted cs all.1)

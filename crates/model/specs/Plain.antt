@@ -1,7 +1,7 @@
 -- The plain book: what a year book holds after a journal, by the rules alone. No table, no order but that of entry.
 use Rattle.std.specs.Prelude.{◌≡◌, ℕ, ◌+◌, ◌*◌, ◌<◌, ◌≤◌, Bool, cond, not, ◌&&◌, ◌||◌, List, [], ◌∷◌, ◌++◌, map, length, is_ok, Ok, Err, fold, sum_by, count_by, filter, Result, ◌==◌, nat_le, nat_lt}
 use Rattle.std.specs.List.Sorted.{IsPermutation}
-use Rattle.std.specs.List.{AllByRecursion as All}
+use Rattle.std.specs.List.{AllByRecursion}
 use Rattle.model.specs.declared.events.Event.{Event}
 use Rattle.model.specs.declared.events.Event.TheVariants.{EnterFuel, EnterUnit, EnterBurn, Strike, Restart, Next, Packing, Question}
 use Rattle.model.specs.declared.faults.BookFault.{BookFault}
@@ -171,7 +171,7 @@ Before u v = (v.entry.day ≤ u.entry.day) × (u.entry.day ≡ v.entry.day → u
 
 abbrev pub Ordered : List Standing → Type 0
 Ordered [] = Unit {0}
-Ordered (u ∷ us) = All (Before u) us × Ordered us
+Ordered (u ∷ us) = AllByRecursion (Before u) us × Ordered us
 
 -- The contents p are those after the journal, with the units in order: the fuels in order of entry, and the units rearranged.
 pub record Shows (journal : List Event) (p : Contents) : Type 0 where

@@ -1,6 +1,6 @@
 -- Power units: what stands in a year book, exact emissions, a unit as a register means it and as it tells it.
 use Rattle.std.specs.Prelude.{◌≡◌, ℕ, ◌*◌, ◌<◌, ◌≤◌, min, Bool, true, false, cond, List, [], ◌∷◌, Some, None, sum_by, Option, ◌==◌}
-use Rattle.std.specs.List.{AllByRecursion as All}
+use Rattle.std.specs.List.{AllByRecursion}
 use Rattle.std.specs.Option.{unwrap_or}
 use Rattle.model.specs.declared.classes.Class.{Class}
 use Rattle.model.specs.declared.classes.Class.TheVariants.{Import}
@@ -99,9 +99,9 @@ pub record InRange (u : Listed) : Type 0 where
   pub defaults : EmitsOption u.generation u.default
 
 abbrev pub Ranged : List Listed → Type 0
-Ranged us = All InRange us
+Ranged us = AllByRecursion InRange us
 
 -- Start days never rise along the list: no later unit is newer.
 abbrev pub Falling : List Listed → Type 0
 Falling [] = Unit {0}
-Falling (u ∷ us) = All (λ v. v.day ≤ u.day) us × Falling us
+Falling (u ∷ us) = AllByRecursion (λ v. v.day ≤ u.day) us × Falling us

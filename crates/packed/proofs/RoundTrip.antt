@@ -2,7 +2,7 @@
 use Rattle.std.proofs.Common.{◌≡◌, ℕ, ◌+◌, ◌*◌, ◌/◌, ◌≤◌, Bool, true, false, cond, not, ◌&&◌, ◌||◌, eqb, ltb, leb, List, [], ◌∷◌, ◌++◌, map, length, take, Some, None, Option, unwrap_or, sym, refl, ap, ◌∙◌, subst, arith}
 use Rattle.std.proofs.lemmas.List.{length-append, take_at}
 use Rattle.std.proofs.lemmas.Bool.{and_from, and_parts, eq-eqb, le-leb, le-ltb, leb-true, ne_eqb, not_from_true, or_from}
-use Rattle.std.specs.List.{AllByRecursion as All}
+use Rattle.std.specs.List.{AllByRecursion}
 use Rattle.model.specs.declared.classes.Class.{Class}
 use Rattle.model.specs.declared.classes.Class.TheVariants.{Import, LowCost, Ordinary, Registered, RegisteredLowCost}
 use Rattle.model.specs.declared.faults.Fault.{Fault}
@@ -156,14 +156,14 @@ module _ (bs : List ℕ) (v : Listed) (r : Reads bs (told v)) (h : InRange v) wh
 
 -- ---- the list
 
-records-back : (i latest : ℕ) (vs : List Listed) → Ranged vs → Falling vs → All (λ v. v.day ≤ latest) vs
+records-back : (i latest : ℕ) (vs : List Listed) → Ranged vs → Falling vs → AllByRecursion (λ v. v.day ≤ latest) vs
     → told_course (packed_from i latest (map packed_record (map told vs))) ≡ record { units = map told vs; ending = proper }
 records-back i latest [] h f o = refl
 records-back i latest (v ∷ vs) h f o =
     let bs = packed_record (told v) in
     let r = reads v h.0 in
     let rest = packed_from (i + 1) (packed_day bs) (map packed_record (map told vs)) in
-    let P : ℕ → Type 0 = λ n. All (λ u. u.day ≤ n) vs in
+    let P : ℕ → Type 0 = λ n. AllByRecursion (λ u. u.day ≤ n) vs in
     ap (λ x. told_course (or_unit x (packed_unit bs) rest)) (no-fault bs v r h.0 i latest o.0)
     ∙ (λ k. before (unit-back bs v r h.0 k) (records-back (i + 1) (packed_day bs) vs h.1 f.1 (subst P (sym r.day) f.0) k))
 
@@ -177,7 +177,7 @@ pieces-packed (u ∷ us) =
     pieces_more (packed_bytes (u ∷ us)) (omega (arith, length-packed (u ∷ us)))
     ∙ (λ k. packed_record u ∷ pieces-packed us k)
 
-days-small : (vs : List Listed) → Ranged vs → All (λ v. v.day ≤ 4294967295) vs
+days-small : (vs : List Listed) → Ranged vs → AllByRecursion (λ v. v.day ≤ 4294967295) vs
 days-small [] h = tt
 days-small (v ∷ vs) h = (day-small v.class v.day v.default h.0.dated, days-small vs h.1)
 

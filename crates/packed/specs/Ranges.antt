@@ -2,7 +2,7 @@
 use Rattle.std.proofs.Common.{◌≡◌, ℕ, zero, suc, ◌+◌, ◌*◌, ◌/◌, ◌<◌, ◌≤◌, Bool, true, false, cond, not, ◌&&◌, ◌||◌, eqb, ltb, leb, ◌⊎◌, List, [], ◌∷◌, length, get_or, take, drop, Some, None, Option, unwrap_or, sym, refl, subst, inl, inr, arith}
 use Rattle.std.proofs.lemmas.List.{get_or-drop, get_or_past, get_or-take, length-take}
 use Rattle.std.proofs.lemmas.Bool.{and_parts, cases_lt, eqb-false, eqb-true, false≢true, leb-true, ltb-false, not-false, or_parts}
-use Rattle.std.specs.List.{AllByRecursion as All}
+use Rattle.std.specs.List.{AllByRecursion}
 use Rattle.model.specs.declared.classes.Class.TheVariants.{Import}
 use Rattle.model.specs.declared.faults.Fault.{Fault}
 use Rattle.model.specs.declared.faults.Rule.TheVariants.{EmissionTooHigh, LaterDay, NoSuchDay, OutOfRange, ShortOrForeignRecord, ZeroCode}
@@ -119,14 +119,14 @@ cases-option (Some x) = inr (x, refl)
 -- units in range, none later than `latest`, in order
 record Good (latest : ℕ) (us : List Listed) : Type 0 where
   ranged : Ranged us
-  older : All (λ v. v.day ≤ latest) us
+  older : AllByRecursion (λ v. v.day ≤ latest) us
   falling : Falling us
 
-older-all : (m n : ℕ) → m ≤ n → (us : List Listed) → All (λ v. v.day ≤ m) us → All (λ v. v.day ≤ n) us
+older-all : (m n : ℕ) → m ≤ n → (us : List Listed) → AllByRecursion (λ v. v.day ≤ m) us → AllByRecursion (λ v. v.day ≤ n) us
 older-all m n h [] a = tt
 older-all m n h (u ∷ us) a = (omega (arith, a.0), older-all m n h us a.1)
 
-good-from : (i latest : ℕ) (ps : List (List ℕ)) → All (λ p. word p 2 ≤ 65535) ps → Good latest (packed_from i latest ps).units
+good-from : (i latest : ℕ) (ps : List (List ℕ)) → AllByRecursion (λ p. word p 2 ≤ 65535) ps → Good latest (packed_from i latest ps).units
 good-from i latest [] w = record { ranged = tt; older = tt; falling = tt }
 good-from i latest (p ∷ ps) w =
     let later = packed_from (i + 1) (packed_day p) ps in
@@ -157,7 +157,7 @@ bytes_take bs h k =
 bytes_drop : (bs : List ℕ) → Bytes bs → Bytes (drop 32 bs)
 bytes_drop bs h k = subst (λ (n : ℕ). n < 256) (sym (get_or-drop 32 bs k 0)) (h (32 + k))
 
-words : (n : ℕ) (bs : List ℕ) → Bytes bs → All (λ p. word p 2 ≤ 65535) (pieces n bs)
+words : (n : ℕ) (bs : List ℕ) → Bytes bs → AllByRecursion (λ p. word p 2 ≤ 65535) (pieces n bs)
 words zero bs h = tt
 words (suc n) bs h = let b = bytes_take bs h in (omega (arith, b 2, b 3), words n (drop 32 bs) (bytes_drop bs h))
 

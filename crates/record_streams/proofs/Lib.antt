@@ -1,4 +1,3 @@
-pub mod Letters
 pub mod Standing
 pub mod Asking
 pub mod Fed

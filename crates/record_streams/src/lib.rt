@@ -1,10 +1,6 @@
 // The intake: 32-byte records in, entries into a year book and the methods, and answers out.
 #![tactic(auto)]
 
-mod decoding;
-
-pub use decoding::decode;
-
 mod methods;
 
 pub use methods::Methods;

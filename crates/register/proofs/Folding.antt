@@ -3,7 +3,7 @@ use Rattle.std.proofs.Common.{◌≡◌, ℕ, ◌+◌, ◌-◌, ◌*◌, ◌<◌
 use lib.ListN.{length-map}
 use lib.Seq.{take-nil}
 use Rattle.std.proofs.lemmas.Bool.{cases_lt, le-leb, lt-leb}
-use Rattle.std.specs.List.{AllByRecursion as All}
+use Rattle.std.specs.List.{AllByRecursion}
 use Rattle.model.specs.Course.{Course, Ending, limit, answered, faulty, if_walked, proper, tail, told_course}
 use Rattle.model.specs.Faults.{new_fault}
 use Rattle.model.specs.Fraction.{Frac}
@@ -23,7 +23,7 @@ rounded-option n None h = tt
 rounded-option n (Some f) h = rounded-cap f (10000000 * n) h.real h.cap
 
 -- what is told of units in range is within the caps
-pub caps : (us : List Listed) → Ranged us → All Cap (map told us)
+pub caps : (us : List Listed) → Ranged us → AllByRecursion Cap (map told us)
 caps [] h = tt
 caps (u ∷ us) h = (
   record {
@@ -43,7 +43,7 @@ pub record Folding {S : Type 0} (step : S → PowerUnit → S) (fits : S → ℕ
   pub done : limit < count → s ≡ fold step start (take limit all)
   pub many : limit < count → limit < length all
   pub room : count ≤ limit → fits s count
-  pub rest : All Cap left
+  pub rest : AllByRecursion Cap left
 
 take_none : {A : Type 0} (n : ℕ) (xs : List A) → n ≡ 0 → take n xs ≡ []
 take_none n xs e = rw e
@@ -52,7 +52,7 @@ take-cons : {A : Type 0} (n m : ℕ) (x : A) (xs : List A) → n ≡ m + 1 → t
 take-cons n m x xs e = rw (e, add-one)
 
 module _ {S : Type 0} (step : S → PowerUnit → S) (fits : S → ℕ → Type 0) (start : S) (all : List PowerUnit) where
-  pub folding-none : fits start 0 → All Cap all → Folding step fits start all all 0 start
+  pub folding-none : fits start 0 → AllByRecursion Cap all → Folding step fits start all all 0 start
   folding-none f h =
       record { few = omega arith; counts = omega arith; gives = λ _. refl; done = λ k. absurd (omega arith); many = λ k. absurd (omega arith); room = λ _. f; rest = h }
 

@@ -1,6 +1,6 @@
 // What a unit is made of: its entry and its burns.
 ghost use Rattle.std.specs.Prelude.{◌≡◌, ◌≤◌, true, length};
-ghost use Rattle.std.specs.List.{AllByRecursion as All};
+ghost use Rattle.std.specs.List.{AllByRecursion};
 ghost use Rattle.model.specs.Calendar.{is_day};
 ghost use Rattle.model.specs.Plain.{unit_in_range};
 ghost use Rattle.book.specs.Burns.{Fits};
@@ -44,7 +44,7 @@ impl StandingUnit {
     pub fn burns(&self) -> &[Burn]
         ensures value { result.now ≡ (standing self.now).burns }
         ensures few { length result.now ≤ 4 }
-        ensures fits { All Fits result.now }
+        ensures fits { AllByRecursion Fits result.now }
     {
         &self.burns[0..self.count]
     }

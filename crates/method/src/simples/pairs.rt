@@ -1,6 +1,6 @@
 // The yearly pairs: how they are entered, and what they say of the method.
 ghost use Rattle.std.specs.Prelude.{◌≡◌, ◌≤◌, true, [], length, OnErr};
-ghost use Rattle.std.specs.List.{AllByRecursion as All};
+ghost use Rattle.std.specs.List.{AllByRecursion};
 ghost use Rattle.model.specs.Operating.{is_year, pair_answer, pair_in_range, pairs_after};
 ghost use Rattle.model.specs.Plain.{any};
 ghost use Rattle.method.specs.Pairs.{pairs_of, yearly_sums, years_answer};
@@ -42,7 +42,7 @@ impl Simple {
     fn pairs(&self) -> &[YearlyPair]
         ensures value { result.now ≡ pairs_of self.now }
         ensures few { length result.now ≤ 5 }
-        ensures ranged { All (λ p. pair_in_range p ≡ true) result.now }
+        ensures ranged { AllByRecursion (λ p. pair_in_range p ≡ true) result.now }
     {
         &self.pairs[0..self.count]
     }

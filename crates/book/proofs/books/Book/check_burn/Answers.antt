@@ -1,5 +1,5 @@
 use Rattle.std.proofs.Common.{◌≡◌, ℕ, Bool, true, false, ◌||◌, eqb, leb, length, take, Err, vec_items, sym, refl, ap, ◌∙◌, arith}
-use Rattle.std.specs.List.{AllByRecursion as All}
+use Rattle.std.specs.List.{AllByRecursion}
 use Rattle.std.proofs.lemmas.List.{length-map}
 use Rattle.std.proofs.lemmas.Bool.{le-ltb, ltb-false, ne_eqb, not_from_false, not_from_true, or_from}
 use Rattle.model.specs.declared.faults.Fault.{Fault}
@@ -60,7 +60,7 @@ returns-then-burns_fuel c =
     burns
 
 -- the unit stands, without this fuel
-four : (c : Else-burns_fuel) → Found c.args.entry.now.unit (vec_items c.args.self.now.units) c.in-Some.place c.index.result.now → All (λ t. t.0 ≡ false) (take 4 (burn_checks (seen c.args.self.now) c.args.entry.now))
+four : (c : Else-burns_fuel) → Found c.args.entry.now.unit (vec_items c.args.self.now.units) c.in-Some.place c.index.result.now → AllByRecursion (λ t. t.0 ≡ false) (take 4 (burn_checks (seen c.args.self.now) c.args.entry.now))
 four c found =
     let p = seen c.args.self.now in
     let e = c.args.entry.now in
@@ -79,7 +79,7 @@ returns-in_default-find_fuel c =
     ap Err c.refusal-in_default-find_fuel.ensures
     ∙ refused-at (burn_checks p e) 4 past (omega arith) (four at.Else-burns_fuel (read at.After-index)) (not_from_false _ (sym absent))
 
-five : (c : In-Some-find_fuel) → All (λ t. t.0 ≡ false) (take 4 (burn_checks (seen c.args.self.now) c.args.entry.now)) → All (λ t. t.0 ≡ false) (take 5 (burn_checks (seen c.args.self.now) c.args.entry.now))
+five : (c : In-Some-find_fuel) → AllByRecursion (λ t. t.0 ≡ false) (take 4 (burn_checks (seen c.args.self.now) c.args.entry.now)) → AllByRecursion (λ t. t.0 ≡ false) (take 5 (burn_checks (seen c.args.self.now) c.args.entry.now))
 five c t =
     let fueled : true ≡ any (is_fuel c.args.entry.now.fuel) (seen c.args.self.now).fuels = rw c.deref-2.ensures.value at c.in-Some-find_fuel.ensures.test in
     (t.0, (t.1.0, (t.1.1.0, (t.1.1.1.0, (not_from_true _ (sym fueled), tt)))))
@@ -105,7 +105,7 @@ exceeds-requires c =
     let fits = fuel-fits (seen c.args.self.now) c.args.self.now.reached c.args.entry.now.fuel in
     rw (is-fuel (goal.at.exceeds-requires c).In-Some-find_fuel) record { quantity = c.if-entry-gt-QUANTITY.false; heat = fits.0; carbon = fits.1 }
 
-six : (c : Else-is_full) → Found c.args.entry.now.unit (vec_items c.args.self.now.units) c.in-Some.place c.index.result.now → All (λ t. t.0 ≡ false) (take 5 (burn_checks (seen c.args.self.now) c.args.entry.now)) → All (λ t. t.0 ≡ false) (take 6 (burn_checks (seen c.args.self.now) c.args.entry.now))
+six : (c : Else-is_full) → Found c.args.entry.now.unit (vec_items c.args.self.now.units) c.in-Some.place c.index.result.now → AllByRecursion (λ t. t.0 ≡ false) (take 5 (burn_checks (seen c.args.self.now) c.args.entry.now)) → AllByRecursion (λ t. t.0 ≡ false) (take 6 (burn_checks (seen c.args.self.now) c.args.entry.now))
 six c found t =
     let room : leb 4 (length (unit_of c.args.entry.now.unit (seen c.args.self.now).units).burns) ≡ false = rw found.is (sym c.if-is_full.ensures) in
     (t.0, (t.1.0, (t.1.1.0, (t.1.1.1.0, (t.1.1.1.1.0, (room, tt))))))
