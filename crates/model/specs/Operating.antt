@@ -1,5 +1,5 @@
 -- The simple and the simple adjusted method as a question asks them: what refuses them, what a unit's share is, what they answer.
-use Rattle.std.specs.Prelude.{ℕ, ◌+◌, ◌-◌, ◌*◌, Bool, cond, not, ◌&&◌, List, [], ◌∷◌, ◌++◌, map, sum_by, filter, Option, Result, ◌==◌, nat_le, nat_lt}
+use Rattle.std.specs.Prelude.{◌≡◌, ℕ, ◌+◌, ◌-◌, ◌*◌, Bool, cond, not, ◌&&◌, List, [], ◌∷◌, ◌++◌, map, sum_by, filter, Option, Result, ◌==◌, nat_le, nat_lt}
 use Rattle.model.specs.declared.faults.Fault.{Fault}
 use Rattle.model.specs.declared.faults.MethodFault.{MethodFault}
 use Rattle.model.specs.declared.faults.Rule.TheVariants.{AlreadyStands, LowCostAboveLoad, MethodClosed, Missing, NoShare, OutOfRange}
@@ -7,6 +7,7 @@ use Rattle.model.specs.declared.records.YearlyPair.{YearlyPair}
 use Rattle.model.specs.Faults.{first_of, stands_after, unless_refused}
 use Rattle.model.specs.Fraction.{Frac, ratio}
 use Rattle.model.specs.LoadYears.{Hour, first_fault, loads_from, low_cost_hours}
+use Rattle.model.specs.Methods.{adjusted_answer as defined_adjusted_answer, adjusted_meaning as defined_adjusted_meaning, simple_meaning as defined_simple_meaning}
 use Rattle.model.specs.Methods.{adjusted_share, closed, generated, generation, low_cost, mean, method_fault, other_than_low_cost, unless_fault, zero_share}
 use Rattle.model.specs.Plain.{any}
 use Rattle.model.specs.Rounding.{rounded}
@@ -96,3 +97,9 @@ module _ (hours : ℕ) where
 
   unfoldable pub adjusted_answer : (ℕ → Hour) → List Listed → ℕ
   adjusted_answer year us = adjusted_margin (loads_from year 0 hours) us
+
+-- The methods as a question asks them are those that Methods defines.
+pub record MethodsAgree : Type 0 where
+  pub simple : (ps : List YearlyPair) (us : List Listed) → simple_meaning ps us ≡ defined_simple_meaning ps us
+  pub adjusted : (hours : ℕ) (year : ℕ → Hour) (us : List Listed) → adjusted_meaning hours year us ≡ defined_adjusted_meaning hours year us
+  pub figure : (hours : ℕ) (year : ℕ → Hour) (us : List Listed) → adjusted_answer hours year us ≡ defined_adjusted_answer hours (loads_from year 0 hours) us

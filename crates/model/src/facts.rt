@@ -1,5 +1,6 @@
 // Theorems on the definitions, each the contract of a function.
 ghost use Rattle.model.specs.LoadYears.{LoadLaws, LowCostHoursGrow, LowerCountFirst, NotEveryHourCounts};
+ghost use Rattle.model.specs.Operating.{MethodsAgree};
 ghost use Rattle.model.specs.Rounding.{RoundedIsFloor, RoundingLaws};
 ghost use Rattle.model.specs.Streams.{StreamLaws};
 
@@ -30,6 +31,13 @@ pub fn low_cost_laws() -> u8
 // What a stream of records leaves: what its accepted entries make in order; nothing more after a question; nothing by a refused record.
 pub fn stream_laws() -> u8
     ensures { StreamLaws }
+{
+    0
+}
+
+// The simple and the simple adjusted method, as a question asks them, are the methods as they are defined.
+pub fn methods_agree() -> u8
+    ensures { MethodsAgree }
 {
     0
 }

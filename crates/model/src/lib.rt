@@ -39,7 +39,7 @@ pub use records::{LoadGroup, MethodKind, Question, Record, YearlyPair};
 
 mod facts;
 
-pub use facts::{load_laws, low_cost_laws, rounding_laws, stream_laws};
+pub use facts::{load_laws, low_cost_laws, methods_agree, rounding_laws, stream_laws};
 
 mod fields;
 

@@ -1,17 +1,17 @@
 -- A question, beside what the rules say of it.
-use Rattle.std.proofs.Common.{◌≡◌, ℕ, Bool, true, false, List, Some, None, Option, Result, sym, refl, ap, ◌∙◌, subst}
-use Rattle.book.specs.Seen.{Restarted, coming, seen}
+use Rattle.std.proofs.Common.{◌≡◌, ℕ, Bool, false, List, Some, None, Option, Result, refl, subst}
+use Rattle.book.specs.Seen.{seen}
 use Rattle.book.specs.declared.books.Book.{Book}
 use Rattle.model.specs.Course.{Course, told_course}
 use Rattle.model.specs.History.{year_book}
-use Rattle.model.specs.LoadYears.{Hour, year_hours, group_year}
-use Rattle.model.specs.Methods.{average_answer, average_meaning, simple_answer}
+use Rattle.model.specs.LoadYears.{Hour, year_hours}
+use Rattle.model.specs.Methods.{simple_answer}
 use Rattle.model.specs.Operating.{adjusted_answer, adjusted_meaning, simple_meaning}
-use Rattle.model.specs.Plain.{Contents, Shows, book_course}
+use Rattle.model.specs.Plain.{Contents, book_course}
 use Rattle.model.specs.Promise.{Promise}
 use Rattle.model.specs.Records.{numbered_method}
 use Rattle.model.specs.Shares.{Verdict}
-use Rattle.model.specs.Streams.{AnswerBy, Gathered, Promised, PromisedBy}
+use Rattle.model.specs.Streams.{AnswerBy, Gathered, Promised}
 use Rattle.model.specs.Units.{Listed}
 use Rattle.model.specs.declared.answers.CombinedMargin.{CombinedMargin}
 use Rattle.model.specs.declared.answers.Reply.{Reply}
@@ -23,7 +23,7 @@ use Rattle.model.specs.declared.records.Question.{Question}
 use Rattle.model.specs.declared.records.YearlyPair.{YearlyPair}
 use Rattle.model.specs.declared.units.PowerUnit.{PowerUnit}
 use Rattle.model.proofs.Lives.{one-contents}
-use Rattle.record_streams.specs.Taking.{Asks, AsksBy, AsksKind, AsksNone, Questions, pairs_in, year_in}
+use Rattle.record_streams.specs.Taking.{AsksBy, AsksKind, Questions}
 use Rattle.record_streams.specs.declared.methods.Methods.{Methods}
 use Rattle.record_streams.proofs.Standing.{Holds}
 

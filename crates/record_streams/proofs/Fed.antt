@@ -1,10 +1,9 @@
 -- A stream taken piece by piece, beside what the rules say of it.
-use Rattle.std.proofs.Common.{◌≡◌, ℕ, Bool, true, false, cond, not, ◌&&◌, List, [], ◌∷◌, ◌++◌, is_some, Some, None, Err, MatchBool, fold, Option, Result, sym, refl, ap, ◌∙◌, subst, append_assoc}
+use Rattle.std.proofs.Common.{◌≡◌, ℕ, Bool, true, false, Some, None, Err, MatchBool, Option, Result, refl, ◌∙◌, subst}
 use Rattle.std.proofs.lemmas.Bool.{both_ways}
 use Rattle.book.specs.declared.books.Book.{Book}
 use Rattle.model.specs.Faults.{new_fault}
-use Rattle.model.specs.Records.{record_of}
-use Rattle.model.specs.Streams.{Gathered, Replies, ReplyTo, ReplyToRead, ReplyToRecord, Stand, accepts, after_all, after_piece, after_read, after_record, entry_fault, entry_reply, index_after, is_question, next_index, put_in, refused_for}
+use Rattle.model.specs.Streams.{ReplyToRecord, Stand, after_record, entry_fault, entry_reply, is_question, put_in, refused_for}
 use Rattle.model.specs.declared.answers.Reply.{Reply}
 use Rattle.model.specs.declared.faults.Fault.{Fault}
 use Rattle.model.specs.declared.faults.IntakeFault.{IntakeFault}
@@ -12,14 +11,10 @@ use Rattle.model.specs.declared.faults.Layer.TheVariants.{Intake as IntakeLayer}
 use Rattle.model.specs.declared.faults.Rule.TheVariants.{AfterQuestion}
 use Rattle.model.specs.declared.records.Record.{Record}
 use Rattle.model.specs.declared.records.Record.TheVariants.{Burn, Fuel, Load, Question as Asked, Strike, Unit as UnitRecord, Yearly}
-use Rattle.record_streams.specs.Feeding.{Stands, phase_of}
-use Rattle.record_streams.specs.Taking.{Gathers, Leaves, Taken, Takes, TakesRecord, next_phase}
+use Rattle.record_streams.specs.Feeding.{phase_of}
+use Rattle.record_streams.specs.Taking.{Gathers, Leaves, TakesRecord}
 use Rattle.record_streams.specs.declared.methods.Methods.{Methods}
-use Rattle.record_streams.specs.declared.phases.Intake.{Intake}
-use Rattle.record_streams.specs.declared.phases.Phase.{Phase}
-use Rattle.record_streams.specs.declared.phases.Phase.TheVariants.{Answering, Gathering}
-use Rattle.record_streams.proofs.Asking.{asked}
-use Rattle.record_streams.proofs.Standing.{Entering, Holds, enters}
+use Rattle.record_streams.proofs.Standing.{Holds, enters}
 
 -- the answer to an entry, by its own fault or for coming after a question
 entry-reply : (at : ℕ) (s : Stand) (x : Record) (r : Result Reply IntakeFault) → is_question x ≡ false → r ≡ entry_reply (refused_for at s x) → ReplyToRecord at s x r

@@ -1,23 +1,17 @@
 -- One record taken, beside what the rules say of it.
-use Rattle.std.proofs.Common.{◌≡◌, ℕ, Bool, true, false, cond, not, ◌&&◌, List, [], ◌∷◌, ◌++◌, is_some, IfErr, Some, None, Ok, Err, Option, Result, sym, refl, ap, ◌∙◌, subst, arith}
-use Rattle.book.specs.Seen.{Changes, Entered, Restarted, coming, seen}
+use Rattle.std.proofs.Common.{◌≡◌, ℕ, true, false, List, [], ◌∷◌, ◌++◌, IfErr, Some, None, Ok, Err, Option, Result, sym, refl, ap, ◌∙◌, arith}
+use Rattle.book.specs.Seen.{seen}
 use Rattle.book.specs.declared.books.Book.{Book}
-use Rattle.load.specs.Taking.{TakenIn, year_of}
+use Rattle.load.specs.Taking.{year_of}
 use Rattle.load.specs.declared.groups.LoadGroups.{LoadGroups}
 use Rattle.method.specs.Pairs.{pairs_of}
 use Rattle.method.specs.declared.adjustments.Adjusted.{Adjusted}
 use Rattle.std.proofs.lemmas.Bool.{both_ways}
-use Rattle.model.specs.Course.{told_course}
-use Rattle.model.specs.Faults.{new_fault, stands_after, unless_refused}
-use Rattle.model.specs.History.{listed, year_book}
-use Rattle.model.specs.LoadYears.{Hour, year_hours, group_answer, group_fault, group_year, groups_after}
+use Rattle.model.specs.Faults.{stands_after, unless_refused}
+use Rattle.model.specs.LoadYears.{year_hours, group_fault, group_year, groups_after}
 use Rattle.model.specs.Operating.{pair_answer, pair_fault, pairs_after}
-use Rattle.model.specs.Plain.{Contents, Shows, after, book_course, verdict}
-use Rattle.model.specs.Promise.{Promise}
-use Rattle.model.specs.Records.{numbered_method, record_of}
-use Rattle.model.specs.Shares.{Verdict}
-use Rattle.model.specs.Streams.{AnswerBy, Gathered, Promised, PromisedBy, ReplyTo, ReplyToRead, ReplyToRecord, Stand, accepts, after_piece, after_read, after_record, entry_fault, entry_reply, event_fault, is_question, margin_reply, next_index, put_in, refusal_of, refused_for, with_event}
-use Rattle.model.specs.Units.{Listed}
+use Rattle.model.specs.Plain.{Shows}
+use Rattle.model.specs.Streams.{Gathered, entry_fault, entry_reply, event_fault, is_question, put_in, refusal_of, with_event}
 use Rattle.model.specs.declared.answers.Reply.{Reply}
 use Rattle.model.specs.declared.events.Event.{Event}
 use Rattle.model.specs.declared.events.Event.TheVariants.{EnterBurn, EnterFuel, EnterUnit, Strike as StrikeUnit}
@@ -27,19 +21,11 @@ use Rattle.model.specs.declared.faults.IntakeFault.{IntakeFault}
 use Rattle.model.specs.declared.faults.LoadFault.{LoadFault}
 use Rattle.model.specs.declared.faults.MethodFault.{MethodFault}
 use Rattle.model.specs.declared.records.LoadGroup.{LoadGroup}
-use Rattle.model.specs.declared.records.MethodKind.{MethodKind}
-use Rattle.model.specs.declared.records.MethodKind.TheVariants.{Adjusted as AdjustedKind, Average, Simple}
-use Rattle.model.specs.declared.records.Question.{Question}
 use Rattle.model.specs.declared.records.Record.{Record}
 use Rattle.model.specs.declared.records.Record.TheVariants.{Burn, Fuel, Load, Question as Asked, Strike, Unit as UnitRecord, Yearly}
 use Rattle.model.specs.declared.records.YearlyPair.{YearlyPair}
-use Rattle.model.proofs.Lives.{one-contents}
-use Rattle.record_streams.specs.Feeding.{Stands, phase_of}
-use Rattle.record_streams.specs.Taking.{Asks, AsksBy, AsksKind, EntersBook, EntersLoad, EntersPair, Gathers, Leaves, Questions, Taken, Takes, TakesRecord, handed_on, next_phase, pairs_in, year_in}
+use Rattle.record_streams.specs.Taking.{EntersBook, EntersLoad, EntersPair, Gathers, handed_on, pairs_in, year_in}
 use Rattle.record_streams.specs.declared.methods.Methods.{Methods}
-use Rattle.record_streams.specs.declared.phases.Intake.{Intake}
-use Rattle.record_streams.specs.declared.phases.Phase.{Phase}
-use Rattle.record_streams.specs.declared.phases.Phase.TheVariants.{Answering, Gathering}
 
 -- what book and methods hold, whatever the intake's phase and index
 pub record Holds (g : Gathered) (b : Book) (m : Methods) : Type 0 where

@@ -1,4 +1,4 @@
-// The intake: 32-byte records in, entries into a year book and the methods, and answers out.
+// An intake of every kind of record: entries into a year book and the methods, and answers out. The program does not use it yet.
 #![tactic(auto)]
 
 mod methods;
@@ -8,5 +8,3 @@ pub use methods::Methods;
 mod phases;
 
 pub use phases::Intake;
-
-mod streams;

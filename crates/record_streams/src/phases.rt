@@ -3,9 +3,10 @@ ghost use Rattle.std.specs.Prelude.{◌≡◌};
 ghost use Rattle.model.specs.Faults.{new_fault};
 ghost use Rattle.record_streams.specs.Taking.{Asks, AsksBy, AsksNone, Gathers, Taken};
 
-use super::{Methods, decode};
+use super::Methods;
 use book::Book;
 use combined::combined_margin;
+use intake::decode;
 use method::{Average, Method};
 use model::{Day, Fault, IntakeFault, Layer, MethodKind, Question, Record, Reply, Rule, Weights};
 use register::Register;

@@ -7,5 +7,5 @@ use Rattle.layers.proofs.imports.Import.last.Goals as goal
 pub returns : goal.returns
 returns g c =
     let i = c.args.self.now in
-    let w : c.from.result * c.from-2.result ≡ rounded (ratio (i.generation * i.factor) 1) = rw (rounded-whole (i.generation * i.factor), c.from.ensures, c.from-2.ensures) in
-    rw w
+    let whole : i.generation * i.factor ≡ rounded (ratio (i.generation * i.factor) 1) = rw (rounded-whole (i.generation * i.factor)) in
+    cc
