@@ -1,4 +1,4 @@
-// Tests of margins through layers, and of the whole life of a year book.
+// Tests of margins through layers, of the whole life of a year book, and of a whole stream of records.
 #![tactic(auto)]
 
 #[cfg(test)]
@@ -7,3 +7,5 @@ mod lives;
 mod questions;
 #[cfg(test)]
 mod shared;
+#[cfg(test)]
+mod streams;

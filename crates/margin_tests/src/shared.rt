@@ -1,18 +1,32 @@
 // What the tests share.
-use model::{BurnEntry, CombinedFault, CombinedMargin, Fuel, UnitEntry, Weights};
+use model::{
+    BurnEntry, CombinedFault, CombinedMargin, Fuel, IntakeFault, Reply, UnitEntry, Weights,
+};
 use std::test::Fail;
 
 // Combined, operating and build margin, the set's number and the three counts.
-pub fn figures(
-    answer: &Result<CombinedMargin, CombinedFault>,
-) -> Result<([u32; 3], u8, (u16, u16, u16)), Fail> {
+pub type Figures = ([u32; 3], u8, (u16, u16, u16));
+
+fn told(margin: &CombinedMargin) -> Figures {
+    (
+        [margin.combined, margin.operating, margin.build],
+        margin.cohort.set.number(),
+        margin.cohort.counts,
+    )
+}
+
+pub fn figures(answer: &Result<CombinedMargin, CombinedFault>) -> Result<Figures, Fail> {
     match answer {
-        Ok(margin) => Ok((
-            [margin.combined, margin.operating, margin.build],
-            margin.cohort.set.number(),
-            margin.cohort.counts,
-        )),
+        Ok(margin) => Ok(told(margin)),
         Err(_) => Err(Fail::new("refused")),
+    }
+}
+
+// Of a reply to a question.
+pub fn figures_of(reply: &Result<Reply, IntakeFault>) -> Result<Figures, Fail> {
+    match reply {
+        Ok(Reply::Margin(margin)) => Ok(told(margin)),
+        _ => Err(Fail::new("no margin")),
     }
 }
 

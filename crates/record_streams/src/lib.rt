@@ -8,3 +8,5 @@ pub use methods::Methods;
 mod phases;
 
 pub use phases::Intake;
+
+mod streams;

@@ -1,0 +1,73 @@
+// A whole stream of records, of every kind but strikes and loads, taken in one call.
+use super::shared::figures_of;
+use book::Book;
+use model::{IntakeFault, Reply, Rule};
+use record_streams::{Intake, Methods};
+use std::alloc::{AllocError, Global};
+use std::test::Fail;
+
+// Adds a record with two numbers of four bytes after its head.
+fn add(stream: &mut Vec<u8>, head: [u8; 4], first: u32, second: u32) -> Result<(), AllocError> {
+    stream.extend_from_slice(&head)?;
+    stream.extend_from_slice(&first.to_be_bytes())?;
+    stream.extend_from_slice(&second.to_be_bytes())?;
+    stream.extend_from_slice(&[0u8; 20])
+}
+
+// A fuel of one gram; 10 MWh with 300 g, and 5 MWh of a low-cost unit without burns; five years of 49 and 100 GWh; a question by
+// each method; a fuel after them, and five bytes more.
+fn stream(heap: Global) -> Result<Vec<u8>, AllocError> {
+    let mut stream = Vec::new(heap);
+    add(&mut stream, [b'F', 0, 0, 1], 1_000, 1)?;
+    add(&mut stream, [b'U', 0, 0, 1], 20_200_101, 10)?;
+    add(&mut stream, [b'U', 1, 0, 2], 20_210_101, 5)?;
+    add(&mut stream, [b'B', 0, 0, 1], 65_536, 300)?;
+    for year in 0..5u8 {
+        add(&mut stream, [b'Y', year, 0, 0], 49, 100)?;
+    }
+    for method in 1..4u8 {
+        add(&mut stream, [b'Q', method, 50, 50], 20_240_630, 0)?;
+    }
+    add(&mut stream, [b'F', 0, 0, 2], 1_000, 1)?;
+    stream.extend_from_slice(&[0u8; 5])?;
+    Ok(stream)
+}
+
+// The number of the rule, of the layer, and the place.
+fn refused(reply: &Result<Reply, IntakeFault>) -> (u8, u8, u32) {
+    match reply {
+        Ok(_) => (0, 0, 0),
+        Err(refused) => (
+            refused.fault.rule.number(),
+            refused.fault.layer.number(),
+            refused.fault.place,
+        ),
+    }
+}
+
+// Simple: 300 g / 10 MWh are 30. Average and build margin: 300 g / 15 MWh are 20. No load is known of any hour.
+#[test]
+fn every_method_in_one_stream(rt: HostRuntime) -> Result<(), Fail> {
+    let mut book = Book::new(rt.alloc())?;
+    let mut methods = Methods::new(rt.alloc())?;
+    let mut intake = Intake::new();
+    let mut replies = Vec::new(rt.alloc());
+    intake.take_all(&mut book, &mut methods, &stream(rt.alloc())?, &mut replies)?;
+    assert_eq!(rt; replies.len(), 14);
+    for reply in replies[0..9].iter() {
+        assert!(rt; matches!(reply, Ok(Reply::Entered)));
+    }
+    let cohort = (1, (2, 0, 0));
+    assert_eq!(rt;
+        figures_of(&replies[9])?,
+        ([25, 30, 20], cohort.0, cohort.1)
+    );
+    assert_eq!(rt; refused(&replies[10]), (Rule::Missing.number(), 5, 0));
+    assert_eq!(rt;
+        figures_of(&replies[11])?,
+        ([20, 20, 20], cohort.0, cohort.1)
+    );
+    assert_eq!(rt; refused(&replies[12]), (2, 1, 12));
+    assert_eq!(rt; refused(&replies[13]), (1, 1, 13));
+    Ok(())
+}
