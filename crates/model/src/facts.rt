@@ -19,7 +19,8 @@ pub fn load_laws() -> u8
     0
 }
 
-// Lower loads count first, and there are more low-cost hours with more low-cost generation: from none, and never all.
+// Lower loads count first. With more low-cost generation there are never fewer low-cost hours, without any there is none, and where
+// it is at most the total load not every hour is one.
 pub fn low_cost_laws() -> u8
     ensures lower { LowerCountFirst }
     ensures grow { LowCostHoursGrow }
@@ -28,7 +29,8 @@ pub fn low_cost_laws() -> u8
     0
 }
 
-// What a stream of records leaves: what its accepted entries make in order; nothing more after a question; nothing by a refused record.
+// What a stream of records leaves: what its accepted entries make in order; nothing more after a question; nothing by a refused record,
+// but that a refused question ends the gathering.
 pub fn stream_laws() -> u8
     ensures { StreamLaws }
 {

@@ -1,4 +1,4 @@
--- Something stood before every stream: a book, a load year and pairs are what entries made them.
+-- Something stood before every stream: a book and a load year are what entries made them, and the pairs are those that are held.
 use Rattle.std.proofs.Common.{◌≡◌, ℕ, Bool, true, false, refl}
 use Rattle.std.proofs.Math.Logic.{∥∥₁_map₂}
 use Rattle.book.specs.declared.books.Book.{Book}
