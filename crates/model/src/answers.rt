@@ -3,7 +3,7 @@ ghost use Rattle.std.specs.Prelude.{◌≡◌};
 ghost use Rattle.model.specs.Classes.{set_number};
 
 // Which of the three sets the build cohort is; absent where no build margin was asked for.
-#[derive(Clone, Copy)]
+#[derive(Clone, Copy, PartialEq, Eq, Debug)]
 pub enum CohortSet {
     Absent,
     // The sample run as it is.
@@ -27,21 +27,21 @@ impl CohortSet {
     }
 }
 
-#[derive(Clone, Copy)]
+#[derive(Clone, Copy, PartialEq, Eq, Debug)]
 pub struct Cohort {
     pub set: CohortSet,
     // Units kept from the sample run, registered units, and old units brought back.
     pub counts: (u16, u16, u16),
 }
 
-#[derive(Clone, Copy)]
+#[derive(Clone, Copy, PartialEq, Eq, Debug)]
 pub struct BuildMargin {
     // In g/MWh.
     pub margin: u32,
     pub cohort: Cohort,
 }
 
-#[derive(Clone, Copy)]
+#[derive(Clone, Copy, PartialEq, Eq, Debug)]
 pub struct CombinedMargin {
     // All three in g/MWh.
     pub combined: u32,
@@ -51,14 +51,14 @@ pub struct CombinedMargin {
 }
 
 // What a record that was not refused is answered with.
-#[derive(Clone, Copy)]
+#[derive(Clone, Copy, PartialEq, Eq, Debug)]
 pub enum Reply {
     Entered,
     Margin(CombinedMargin),
 }
 
 // How much the operating and the build margin count, in per cent.
-#[derive(Clone, Copy)]
+#[derive(Clone, Copy, PartialEq, Eq, Debug)]
 pub struct Weights {
     pub operating: u8,
     pub build: u8,

@@ -101,7 +101,7 @@ pub struct Fault {
 }
 
 // The sides of a join.
-#[derive(Clone, Copy)]
+#[derive(Clone, Copy, PartialEq, Eq, Debug)]
 pub enum Side {
     First,
     Second,

@@ -5,7 +5,7 @@ ghost use Rattle.model.specs.Records.{numbered_method};
 use super::{BurnEntry, Fuel, UnitEntry};
 
 // Six hours of a load year.
-#[derive(Clone, Copy)]
+#[derive(Clone, Copy, PartialEq, Eq, Debug)]
 pub struct LoadGroup {
     pub group: u16,
     // In MW, in hour order.
@@ -13,7 +13,7 @@ pub struct LoadGroup {
 }
 
 // One of the five yearly pairs of the simple method.
-#[derive(Clone, Copy)]
+#[derive(Clone, Copy, PartialEq, Eq, Debug, Default)]
 pub struct YearlyPair {
     pub year: u8,
     // Both in GWh.
@@ -22,7 +22,7 @@ pub struct YearlyPair {
 }
 
 // The margin methods that a question may be asked by.
-#[derive(Clone, Copy)]
+#[derive(Clone, Copy, PartialEq, Eq, Debug)]
 pub enum MethodKind {
     Simple,
     Adjusted,
@@ -43,7 +43,7 @@ impl MethodKind {
     }
 }
 
-#[derive(Clone, Copy)]
+#[derive(Clone, Copy, PartialEq, Eq, Debug)]
 pub struct Question {
     pub method: u8,
     // Weights of the operating and the build margin, in per cent.
@@ -52,7 +52,7 @@ pub struct Question {
     pub reference: u32,
 }
 
-#[derive(Clone, Copy)]
+#[derive(Clone, Copy, PartialEq, Eq, Debug)]
 pub enum Record {
     Fuel(Fuel),
     Unit(UnitEntry),

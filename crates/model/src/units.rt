@@ -1,7 +1,7 @@
 // Fuels, units and burns as they are entered, and a unit as a register tells it.
 use super::Class;
 
-#[derive(Clone, Copy)]
+#[derive(Clone, Copy, PartialEq, Eq, Debug, Default)]
 pub struct Fuel {
     pub code: u16,
     // In thousandths of a GJ per fuel unit, which is a tonne or 1,000 cubic metres.
@@ -11,7 +11,7 @@ pub struct Fuel {
 }
 
 // A unit as it is delivered: the numbers may be out of range, and a book decides.
-#[derive(Clone, Copy)]
+#[derive(Clone, Copy, PartialEq, Eq, Debug)]
 pub struct UnitEntry {
     pub code: u16,
     pub class: u8,
@@ -24,7 +24,7 @@ pub struct UnitEntry {
 }
 
 // So much of a fuel burned in a unit, both by their codes.
-#[derive(Clone, Copy)]
+#[derive(Clone, Copy, PartialEq, Eq, Debug)]
 pub struct BurnEntry {
     pub unit: u16,
     pub fuel: u16,
@@ -33,14 +33,14 @@ pub struct BurnEntry {
 }
 
 // A burn as it stands in its unit. A fuel never changes, so the burn has a copy of it.
-#[derive(Clone, Copy)]
+#[derive(Clone, Copy, PartialEq, Eq, Debug, Default)]
 pub struct Burn {
     pub fuel: Fuel,
     pub quantity: u32,
 }
 
 // A unit as a register tells it, its emissions rounded to grams.
-#[derive(Clone, Copy)]
+#[derive(Clone, Copy, PartialEq, Eq, Debug)]
 pub struct PowerUnit {
     pub code: u16,
     // The start day as YYYYMMDD, 0 for an import.
