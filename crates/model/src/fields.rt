@@ -3,6 +3,9 @@ ghost use Rattle.std.specs.Prelude.{◌≡◌};
 ghost use Rattle.model.specs.Packed.{huge};
 ghost use Rattle.model.specs.Records.{all_zero, byte, long, word};
 
+// The bytes of a record.
+pub const RECORD_SIZE: usize = 32;
+
 pub fn all_zero(part: &[u8]) -> bool
     ensures { result ≡ all_zero part.now }
 {
