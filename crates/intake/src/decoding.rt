@@ -1,115 +1,103 @@
 // A record's bytes taken apart.
-ghost use Rattle.std.specs.Prelude.{◌≡◌, ◌∷◌, length};
+ghost use Rattle.std.specs.Prelude.{◌≡◌};
 ghost use Rattle.model.specs.Records.{burn_record, fuel_record, load_record, question_record, record_of, strike_record, unit_record, yearly_record};
 
-use model::{
-    BurnEntry, Fuel, LoadGroup, Question, Record, UnitEntry, YearlyPair, all_zero, long_at, word_at,
-};
+use model::{BurnEntry, Fuel, LoadGroup, Question, Record, RecordBytes, UnitEntry, YearlyPair};
 
-// The kinds of records. `class` is the second byte, and `fields` are the thirty after it.
-
-fn fuel(class: u8, fields: &[u8]) -> Option<Record>
-    requires { length fields.now ≡ 30 }
-    ensures { result ≡ fuel_record (70 ∷ class ∷ fields.now) }
+fn fuel(bytes: &RecordBytes<'_>) -> Option<Record>
+    ensures { result ≡ fuel_record bytes.now.bytes.now }
 {
-    if class != 0 || !all_zero(&fields[10..30]) {
+    if !bytes.zeros(1, 1) || !bytes.zeros(12, 20) {
         return None;
     }
     Some(Record::Fuel(Fuel {
-        code: word_at(fields, 0),
-        heat_content: long_at(fields, 2),
-        carbon_factor: long_at(fields, 6),
+        code: bytes.word(2),
+        heat_content: bytes.long(4),
+        carbon_factor: bytes.long(8),
     }))
 }
 
-fn unit(class: u8, fields: &[u8]) -> Option<Record>
-    requires { length fields.now ≡ 30 }
-    ensures { result ≡ unit_record (85 ∷ class ∷ fields.now) }
+fn unit(bytes: &RecordBytes<'_>) -> Option<Record>
+    ensures { result ≡ unit_record bytes.now.bytes.now }
 {
-    if !all_zero(&fields[14..30]) {
+    if !bytes.zeros(16, 16) {
         return None;
     }
     Some(Record::Unit(UnitEntry {
-        code: word_at(fields, 0),
-        class,
-        day: long_at(fields, 2),
-        generation: long_at(fields, 6),
-        efficiency: word_at(fields, 10),
-        default_efficiency: word_at(fields, 12),
+        code: bytes.word(2),
+        class: bytes.second,
+        day: bytes.long(4),
+        generation: bytes.long(8),
+        efficiency: bytes.word(12),
+        default_efficiency: bytes.word(14),
     }))
 }
 
-fn burn(class: u8, fields: &[u8]) -> Option<Record>
-    requires { length fields.now ≡ 30 }
-    ensures { result ≡ burn_record (66 ∷ class ∷ fields.now) }
+fn burn(bytes: &RecordBytes<'_>) -> Option<Record>
+    ensures { result ≡ burn_record bytes.now.bytes.now }
 {
-    if class != 0 || !all_zero(&fields[4..6]) || !all_zero(&fields[10..30]) {
+    if !bytes.zeros(1, 1) || !bytes.zeros(6, 2) || !bytes.zeros(12, 20) {
         return None;
     }
     Some(Record::Burn(BurnEntry {
-        unit: word_at(fields, 0),
-        fuel: word_at(fields, 2),
-        quantity: long_at(fields, 6),
+        unit: bytes.word(2),
+        fuel: bytes.word(4),
+        quantity: bytes.long(8),
     }))
 }
 
-fn strike(class: u8, fields: &[u8]) -> Option<Record>
-    requires { length fields.now ≡ 30 }
-    ensures { result ≡ strike_record (83 ∷ class ∷ fields.now) }
+fn strike(bytes: &RecordBytes<'_>) -> Option<Record>
+    ensures { result ≡ strike_record bytes.now.bytes.now }
 {
-    if class != 0 || !all_zero(&fields[2..30]) {
+    if !bytes.zeros(1, 1) || !bytes.zeros(4, 28) {
         return None;
     }
-    Some(Record::Strike(word_at(fields, 0)))
+    Some(Record::Strike(bytes.word(2)))
 }
 
-fn load(class: u8, fields: &[u8]) -> Option<Record>
-    requires { length fields.now ≡ 30 }
-    ensures { result ≡ load_record (72 ∷ class ∷ fields.now) }
+fn load(bytes: &RecordBytes<'_>) -> Option<Record>
+    ensures { result ≡ load_record bytes.now.bytes.now }
 {
-    if class != 0 || !all_zero(&fields[2..6]) {
+    if !bytes.zeros(1, 1) || !bytes.zeros(4, 4) {
         return None;
     }
-    let loads = [
-        long_at(fields, 6),
-        long_at(fields, 10),
-        long_at(fields, 14),
-        long_at(fields, 18),
-        long_at(fields, 22),
-        long_at(fields, 26),
-    ];
     Some(Record::Load(LoadGroup {
-        group: word_at(fields, 0),
-        loads,
+        group: bytes.word(2),
+        loads: [
+            bytes.long(8),
+            bytes.long(12),
+            bytes.long(16),
+            bytes.long(20),
+            bytes.long(24),
+            bytes.long(28),
+        ],
     }))
 }
 
-fn yearly(class: u8, fields: &[u8]) -> Option<Record>
-    requires { length fields.now ≡ 30 }
-    ensures { result ≡ yearly_record (89 ∷ class ∷ fields.now) }
+fn yearly(bytes: &RecordBytes<'_>) -> Option<Record>
+    ensures { result ≡ yearly_record bytes.now.bytes.now }
 {
-    if !all_zero(&fields[0..2]) || !all_zero(&fields[10..30]) {
+    if !bytes.zeros(2, 2) || !bytes.zeros(12, 20) {
         return None;
     }
     Some(Record::Yearly(YearlyPair {
-        year: class,
-        low_cost: long_at(fields, 2),
-        all: long_at(fields, 6),
+        year: bytes.second,
+        low_cost: bytes.long(4),
+        all: bytes.long(8),
     }))
 }
 
-fn question(class: u8, fields: &[u8]) -> Option<Record>
-    requires { length fields.now ≡ 30 }
-    ensures { result ≡ question_record (81 ∷ class ∷ fields.now) }
+fn question(bytes: &RecordBytes<'_>) -> Option<Record>
+    ensures { result ≡ question_record bytes.now.bytes.now }
 {
-    if !all_zero(&fields[6..30]) {
+    if !bytes.zeros(8, 24) {
         return None;
     }
     Some(Record::Question(Question {
-        method: class,
-        operating_weight: fields[0],
-        build_weight: fields[1],
-        reference: long_at(fields, 2),
+        method: bytes.second,
+        operating_weight: bytes.byte(2),
+        build_weight: bytes.byte(3),
+        reference: bytes.long(4),
     }))
 }
 
@@ -117,20 +105,15 @@ fn question(class: u8, fields: &[u8]) -> Option<Record>
 pub fn decode(bytes: &[u8]) -> Option<Record>
     ensures { result ≡ record_of bytes.now }
 {
-    let [kind, class, fields @ ..] = bytes else {
-        return None;
-    };
-    if fields.len() != 30 {
-        return None;
-    }
-    match *kind {
-        b'F' => fuel(*class, fields),
-        b'U' => unit(*class, fields),
-        b'B' => burn(*class, fields),
-        b'S' => strike(*class, fields),
-        b'H' => load(*class, fields),
-        b'Y' => yearly(*class, fields),
-        b'Q' => question(*class, fields),
+    let record = RecordBytes::new(bytes)?;
+    match record.kind {
+        b'F' => fuel(&record),
+        b'U' => unit(&record),
+        b'B' => burn(&record),
+        b'S' => strike(&record),
+        b'H' => load(&record),
+        b'Y' => yearly(&record),
+        b'Q' => question(&record),
         _ => None,
     }
 }

@@ -1,3 +1,4 @@
+pub mod ReadOut
 pub mod Alike
 pub mod Calendar
 pub mod Cohorts
@@ -25,5 +26,4 @@ pub mod Streaming
 pub mod Sums
 pub mod Values
 pub mod Verdicts
-pub mod Zeros
 pub mod Agreeing

@@ -1,5 +1,6 @@
 -- The 32-byte records: the first byte is the kind, a letter; numbers are big-endian; every byte that no field has is zero.
-use Rattle.std.specs.Prelude.{ℕ, zero, suc, ◌+◌, ◌*◌, ◌/◌, Bool, true, cond, ◌&&◌, List, [], ◌∷◌, length, take, drop, Some, None, Option, ◌==◌, slice_index}
+use Rattle.std.specs.Prelude.{ℕ, zero, suc, ◌+◌, ◌*◌, ◌/◌, Bool, cond, ◌&&◌, List, [], ◌∷◌, length, take, drop, Some, None, Option, ◌==◌, slice_index}
+use Rattle.std.specs.List.{list_all}
 use Rattle.model.specs.declared.records.MethodKind.{MethodKind}
 use Rattle.model.specs.declared.records.MethodKind.TheVariants.{Adjusted, Average, Simple}
 use Rattle.model.specs.declared.records.Record.{Record}
@@ -18,9 +19,13 @@ word bs i = byte bs i * 256 + byte bs (i + 1)
 abbrev pub long : List ℕ → ℕ → ℕ
 long bs i = byte bs i * 16777216 + byte bs (i + 1) * 65536 + byte bs (i + 2) * 256 + byte bs (i + 3)
 
+-- n bytes from i on, each 0 past the end
+abbrev pub bytes_from : List ℕ → ℕ → ℕ → List ℕ
+bytes_from bs i zero = []
+bytes_from bs i (suc n) = byte bs i ∷ bytes_from bs (i + 1) n
+
 abbrev pub all_zero : List ℕ → Bool
-all_zero [] = true
-all_zero (b ∷ bs) = b == 0 && all_zero bs
+all_zero bs = list_all (λ b. b == 0) bs
 
 -- n bytes from i on are zero
 abbrev pub zeros : List ℕ → ℕ → ℕ → Bool

@@ -14,11 +14,11 @@ pub enum CohortSet {
     WithOld,
 }
 
-impl CohortSet {
-    pub fn number(self) -> u8
-        ensures { result ≡ set_number self }
-    {
-        match self {
+impl From<CohortSet> for u8 {
+    ghost from_gives = { λ set number. number ≡ set_number set };
+
+    fn from(set: CohortSet) -> u8 {
+        match set {
             CohortSet::Absent => 0,
             CohortSet::Sample => 1,
             CohortSet::WithRegistered => 2,

@@ -1,5 +1,5 @@
 // The five classes of power units.
-ghost use Rattle.std.specs.Prelude.{◌≡◌};
+ghost use Rattle.std.specs.Prelude.{◌≡◌, Some, None, MatchResult};
 ghost use Rattle.model.specs.Classes.{class_number, is_home, is_low_cost, is_registered, numbered_class};
 
 #[derive(Clone, Copy, PartialEq, Eq, Debug)]
@@ -14,11 +14,15 @@ pub enum Class {
     Import,
 }
 
-impl Class {
-    pub fn number(self) -> u8
-        ensures { result ≡ class_number self }
-    {
-        match self {
+// A number that tells no case of an enum.
+#[derive(Clone, Copy, PartialEq, Eq, Debug)]
+pub struct UnknownNumber(pub u8);
+
+impl From<Class> for u8 {
+    ghost from_gives = { λ class number. number ≡ class_number class };
+
+    fn from(class: Class) -> u8 {
+        match class {
             Class::Ordinary => 0,
             Class::LowCost => 1,
             Class::Registered => 2,
@@ -26,45 +30,41 @@ impl Class {
             Class::Import => 4,
         }
     }
+}
 
-    // The class that a number tells, if it tells one.
-    pub fn numbered(number: u8) -> Option<Class>
-        ensures { result ≡ numbered_class number }
-    {
+impl TryFrom<u8> for Class {
+    type Error = UnknownNumber;
+
+    ghost try_from_gives = { λ number told. MatchResult told (λ class. numbered_class number ≡ Some class) (λ unknown. (numbered_class number ≡ None) × (unknown.0 ≡ number)) };
+
+    fn try_from(number: u8) -> Result<Class, UnknownNumber> {
         match number {
-            0 => Some(Class::Ordinary),
-            1 => Some(Class::LowCost),
-            2 => Some(Class::Registered),
-            3 => Some(Class::RegisteredLowCost),
-            4 => Some(Class::Import),
-            _ => None,
+            0 => Ok(Class::Ordinary),
+            1 => Ok(Class::LowCost),
+            2 => Ok(Class::Registered),
+            3 => Ok(Class::RegisteredLowCost),
+            4 => Ok(Class::Import),
+            _ => Err(UnknownNumber(number)),
         }
     }
+}
 
+impl Class {
     pub fn is_low_cost(self) -> bool
         ensures { result ≡ is_low_cost self }
     {
-        match self {
-            Class::LowCost | Class::RegisteredLowCost => true,
-            Class::Ordinary | Class::Registered | Class::Import => false,
-        }
+        matches!(self, Class::LowCost | Class::RegisteredLowCost)
     }
 
     pub fn is_registered(self) -> bool
         ensures { result ≡ is_registered self }
     {
-        match self {
-            Class::Registered | Class::RegisteredLowCost => true,
-            Class::Ordinary | Class::LowCost | Class::Import => false,
-        }
+        matches!(self, Class::Registered | Class::RegisteredLowCost)
     }
 
     pub fn is_home(self) -> bool
         ensures { result ≡ is_home self }
     {
-        match self {
-            Class::Ordinary | Class::LowCost | Class::Registered | Class::RegisteredLowCost => true,
-            Class::Import => false,
-        }
+        !matches!(self, Class::Import)
     }
 }

@@ -27,12 +27,12 @@ pub enum Rule {
     BufferShort,
 }
 
-impl Rule {
-    // The number by which a refusal is told.
-    pub fn number(self) -> u8
-        ensures { result ≡ rule_number self }
-    {
-        match self {
+// The number by which a refusal is told.
+impl From<Rule> for u8 {
+    ghost from_gives = { λ rule number. number ≡ rule_number rule };
+
+    fn from(rule: Rule) -> u8 {
+        match rule {
             Rule::ShortOrForeignRecord => 1,
             Rule::AfterQuestion => 2,
             Rule::ZeroCode => 3,
@@ -72,11 +72,11 @@ pub enum Layer {
     Packing,
 }
 
-impl Layer {
-    pub fn number(self) -> u8
-        ensures { result ≡ layer_number self }
-    {
-        match self {
+impl From<Layer> for u8 {
+    ghost from_gives = { λ layer number. number ≡ layer_number layer };
+
+    fn from(layer: Layer) -> u8 {
+        match layer {
             Layer::Intake => 1,
             Layer::Book => 2,
             Layer::Packed => 3,
@@ -119,9 +119,7 @@ impl Fault {
             trail: 1,
         }
     }
-}
 
-impl Fault {
     // The fault on the upper end of a join: its trail tells the side, as long as there is room for it.
     pub fn through(self, side: Side) -> Fault
         ensures { result ≡ through side self }
@@ -133,12 +131,7 @@ impl Fault {
             Side::First => 2 * self.trail,
             Side::Second => 2 * self.trail + 1,
         };
-        Fault {
-            rule: self.rule,
-            layer: self.layer,
-            place: self.place,
-            trail,
-        }
+        Fault { trail, ..self }
     }
 }
 

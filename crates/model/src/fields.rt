@@ -1,62 +1,94 @@
 // The numbers in a record's bytes, the highest byte first. Past the end every byte counts as zero.
-ghost use Rattle.std.specs.Prelude.{◌≡◌};
+ghost use Rattle.std.specs.Prelude.{◌≡◌, ◌≤◌, length, MatchOption};
 ghost use Rattle.model.specs.Packed.{huge};
-ghost use Rattle.model.specs.Records.{all_zero, byte, long, word};
+ghost use Rattle.model.specs.Records.{byte, bytes_from, long, word, zeros};
+
+use std::array;
 
 // The bytes of a record.
 pub const RECORD_SIZE: usize = 32;
 
-pub fn all_zero(part: &[u8]) -> bool
-    ensures { result ≡ all_zero part.now }
-{
-    for byte in part {
-        if *byte != 0 {
-            return false;
+// A record of 32 bytes: its letter, its second byte (a class, a year or a method, by the letter), and all of them. Places count
+// from the letter on, which has place 0.
+#[derive(Clone, Copy)]
+pub struct RecordBytes<'a> {
+    pub kind: u8,
+    pub second: u8,
+    bytes: &'a [u8],
+    ghost long: { length bytes.now ≡ 32 },
+    ghost letter: { kind ≡ byte bytes.now 0 },
+    ghost next: { second ≡ byte bytes.now 1 },
+}
+
+impl<'a> RecordBytes<'a> {
+    // None of another length.
+    pub fn new(bytes: &'a [u8]) -> Option<RecordBytes<'a>>
+        ensures { MatchOption result (length bytes.now ≡ 32 → ⊥) (λ r. r.bytes.now ≡ bytes.now) }
+    {
+        let [kind, second, fields @ ..] = bytes else {
+            return None;
+        };
+        if fields.len() != RECORD_SIZE - 2 {
+            return None;
         }
+        Some(RecordBytes {
+            kind: *kind,
+            second: *second,
+            bytes,
+        })
     }
-    true
 }
 
-fn byte_at(bytes: &[u8], at: usize) -> u8
-    ensures { result ≡ byte bytes.now at }
-{
-    if at < bytes.len() { bytes[at] } else { 0 }
-}
+impl RecordBytes<'_> {
+    pub fn byte(&self, at: u8) -> u8
+        ensures { result ≡ byte self.now.bytes.now at }
+    {
+        self.byte_at(usize::from(at))
+    }
 
-// Two bytes from `at` on.
-pub fn word_at(bytes: &[u8], at: u8) -> u16
-    ensures { result ≡ word bytes.now at }
-{
-    let at = usize::from(at);
-    u16::from_be_bytes([byte_at(bytes, at), byte_at(bytes, at + 1)])
-}
+    fn byte_at(&self, at: usize) -> u8
+        ensures { result ≡ byte self.now.bytes.now at }
+    {
+        self.bytes.get(at).copied().unwrap_or(0)
+    }
 
-// Four bytes from `at` on.
-pub fn long_at(bytes: &[u8], at: u8) -> u32
-    ensures { result ≡ long bytes.now at }
-{
-    let at = usize::from(at);
-    u32::from_be_bytes([
-        byte_at(bytes, at),
-        byte_at(bytes, at + 1),
-        byte_at(bytes, at + 2),
-        byte_at(bytes, at + 3),
-    ])
-}
+    // N bytes from `at` on.
+    fn bytes_from<const N: usize>(&self, at: u8) -> [u8; N]
+        requires { N ≤ 8 }
+        ensures { result ≡ bytes_from self.now.bytes.now at N }
+    {
+        array::from_fn(|i| self.byte_at(usize::from(at) + i))
+    }
 
-// Eight bytes from `at` on.
-pub fn huge_at(bytes: &[u8], at: u8) -> u64
-    ensures { result ≡ huge bytes.now at }
-{
-    let at = usize::from(at);
-    u64::from_be_bytes([
-        byte_at(bytes, at),
-        byte_at(bytes, at + 1),
-        byte_at(bytes, at + 2),
-        byte_at(bytes, at + 3),
-        byte_at(bytes, at + 4),
-        byte_at(bytes, at + 5),
-        byte_at(bytes, at + 6),
-        byte_at(bytes, at + 7),
-    ])
+    // Two bytes from `at` on.
+    pub fn word(&self, at: u8) -> u16
+        ensures { result ≡ word self.now.bytes.now at }
+    {
+        u16::from_be_bytes(self.bytes_from(at))
+    }
+
+    // Four bytes from `at` on.
+    pub fn long(&self, at: u8) -> u32
+        ensures { result ≡ long self.now.bytes.now at }
+    {
+        u32::from_be_bytes(self.bytes_from(at))
+    }
+
+    // Eight bytes from `at` on.
+    pub fn huge(&self, at: u8) -> u64
+        ensures { result ≡ huge self.now.bytes.now at }
+    {
+        u64::from_be_bytes(self.bytes_from(at))
+    }
+
+    // So many bytes from `at` on are zero.
+    pub fn zeros(&self, at: u8, count: u8) -> bool
+        ensures { result ≡ zeros self.now.bytes.now at count }
+    {
+        self.bytes
+            .iter()
+            .skip(usize::from(at))
+            .take(usize::from(count))
+            .all(|byte| *byte == 0)
+    }
 }

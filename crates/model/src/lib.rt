@@ -15,7 +15,7 @@ pub use days::Day;
 
 mod classes;
 
-pub use classes::Class;
+pub use classes::{Class, UnknownNumber};
 
 mod ratios;
 
@@ -43,4 +43,4 @@ pub use facts::{load_laws, low_cost_laws, methods_agree, rounding_laws, stream_l
 
 mod fields;
 
-pub use fields::{RECORD_SIZE, all_zero, huge_at, long_at, word_at};
+pub use fields::{RECORD_SIZE, RecordBytes};

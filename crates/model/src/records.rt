@@ -1,8 +1,8 @@
 // The 32-byte records, taken apart. The numbers are as read, and may be out of range.
-ghost use Rattle.std.specs.Prelude.{◌≡◌};
+ghost use Rattle.std.specs.Prelude.{◌≡◌, Some, None, MatchResult};
 ghost use Rattle.model.specs.Records.{numbered_method};
 
-use super::{BurnEntry, Fuel, UnitEntry};
+use super::{BurnEntry, Fuel, UnitEntry, UnknownNumber};
 
 // Six hours of a load year.
 #[derive(Clone, Copy, PartialEq, Eq, Debug)]
@@ -29,16 +29,18 @@ pub enum MethodKind {
     Average,
 }
 
-impl MethodKind {
-    // The method that a question's byte names, if it names one.
-    pub fn numbered(number: u8) -> Option<MethodKind>
-        ensures { result ≡ numbered_method number }
-    {
+// The method that a question's byte names, if it names one.
+impl TryFrom<u8> for MethodKind {
+    type Error = UnknownNumber;
+
+    ghost try_from_gives = { λ number told. MatchResult told (λ kind. numbered_method number ≡ Some kind) (λ unknown. (numbered_method number ≡ None) × (unknown.0 ≡ number)) };
+
+    fn try_from(number: u8) -> Result<MethodKind, UnknownNumber> {
         match number {
-            1 => Some(MethodKind::Simple),
-            2 => Some(MethodKind::Adjusted),
-            3 => Some(MethodKind::Average),
-            _ => None,
+            1 => Ok(MethodKind::Simple),
+            2 => Ok(MethodKind::Adjusted),
+            3 => Ok(MethodKind::Average),
+            _ => Err(UnknownNumber(number)),
         }
     }
 }
