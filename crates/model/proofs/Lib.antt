@@ -11,7 +11,6 @@ pub mod Fronts
 pub mod Histories
 pub mod Joining
 pub mod Lasting
-pub mod Letters
 pub mod Lives
 pub mod LowCost
 pub mod Members

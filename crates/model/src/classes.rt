@@ -1,5 +1,6 @@
 // The five classes of power units.
-ghost use Rattle.std.specs.Prelude.{◌≡◌, Some, None, MatchResult};
+ghost use Rattle.std.specs.Prelude.{◌≡◌, IfErr};
+ghost use Rattle.std.specs.Result.{result_ok};
 ghost use Rattle.model.specs.Classes.{class_number, is_home, is_low_cost, is_registered, numbered_class};
 
 #[derive(Clone, Copy, PartialEq, Eq, Debug)]
@@ -35,7 +36,7 @@ impl From<Class> for u8 {
 impl TryFrom<u8> for Class {
     type Error = UnknownNumber;
 
-    ghost try_from_gives = { λ number told. MatchResult told (λ class. numbered_class number ≡ Some class) (λ unknown. (numbered_class number ≡ None) × (unknown.0 ≡ number)) };
+    ghost try_from_gives = { λ number told. (result_ok told ≡ numbered_class number) × IfErr told (λ unknown. unknown.0 ≡ number) };
 
     fn try_from(number: u8) -> Result<Class, UnknownNumber> {
         match number {

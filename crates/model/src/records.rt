@@ -1,5 +1,6 @@
 // The 32-byte records, taken apart. The numbers are as read, and may be out of range.
-ghost use Rattle.std.specs.Prelude.{◌≡◌, Some, None, MatchResult};
+ghost use Rattle.std.specs.Prelude.{◌≡◌, IfErr};
+ghost use Rattle.std.specs.Result.{result_ok};
 ghost use Rattle.model.specs.Records.{numbered_method};
 
 use super::{BurnEntry, Fuel, UnitEntry, UnknownNumber};
@@ -33,7 +34,7 @@ pub enum MethodKind {
 impl TryFrom<u8> for MethodKind {
     type Error = UnknownNumber;
 
-    ghost try_from_gives = { λ number told. MatchResult told (λ kind. numbered_method number ≡ Some kind) (λ unknown. (numbered_method number ≡ None) × (unknown.0 ≡ number)) };
+    ghost try_from_gives = { λ number told. (result_ok told ≡ numbered_method number) × IfErr told (λ unknown. unknown.0 ≡ number) };
 
     fn try_from(number: u8) -> Result<MethodKind, UnknownNumber> {
         match number {

@@ -1,6 +1,6 @@
+pub mod ReadAs
 pub mod Counted
 pub mod Digits
-pub mod Letters
 pub mod RoundTrip
 pub mod Steps
 pub mod Writing

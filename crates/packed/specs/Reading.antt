@@ -4,8 +4,8 @@ use Rattle.model.specs.declared.faults.Fault.{Fault}
 use Rattle.model.specs.declared.faults.RegisterFault.{RegisterFault}
 use Rattle.model.specs.declared.units.PowerUnit.{PowerUnit}
 
--- The unit, unless there is a fault.
-abbrev pub read_as : Option Fault → PowerUnit → Result PowerUnit RegisterFault
+-- What is read, unless there is a fault.
+abbrev pub read_as : {A : Type 0} → Option Fault → A → Result A RegisterFault
 read_as None u = Ok u
 read_as (Some f) u = Err (record { fault = f })
 

@@ -7,6 +7,3 @@ mod registers;
 
 pub use packing::pack;
 pub use registers::Packed;
-
-// The bytes of a record.
-const RECORD: usize = 32;

@@ -6,19 +6,8 @@ ghost use Rattle.model.specs.Packed.{flag_of, packed_buffer, packed_bytes, packe
 ghost use Rattle.model.specs.Units.{told};
 ghost use Rattle.packed.specs.Reading.{first_unit};
 
-use super::RECORD;
-use model::{Fault, Layer, PackingFault, PowerUnit, Rule};
+use model::{Fault, Layer, PackingFault, PowerUnit, RECORD_SIZE, Rule};
 use register::{Passing, Register, walk};
-
-// 1 with a default emission, 0 without one.
-fn flag(default_grams: Option<u64>) -> u8
-    ensures { result ≡ flag_of default_grams }
-{
-    match default_grams {
-        Some(_) => 1,
-        None => 0,
-    }
-}
 
 // The first half of a unit's record: all but its two figures.
 fn head(unit: &PowerUnit) -> [u8; 16]
@@ -29,7 +18,7 @@ fn head(unit: &PowerUnit) -> [u8; 16]
     let generation = unit.generation.to_be_bytes();
     [
         b'P',
-        unit.class.number(),
+        u8::from(unit.class),
         code[0],
         code[1],
         day[0],
@@ -40,7 +29,7 @@ fn head(unit: &PowerUnit) -> [u8; 16]
         generation[1],
         generation[2],
         generation[3],
-        flag(unit.default_grams),
+        u8::from(unit.default_grams.is_some()),
         0,
         0,
         0,
@@ -63,10 +52,7 @@ fn next_unit<R: Register>(register: &mut R) -> Option<PowerUnit>
     ensures units { (R.Register.coming register.new).units ≡ tail (R.Register.coming register.old).units }
     ensures answer { result ≡ first_unit (R.Register.coming register.old).units }
 {
-    match register.next() {
-        Ok(unit) => unit,
-        Err(_) => None,
-    }
+    register.next().unwrap_or(None)
 }
 
 // Writes the records of the units still to come to the front of the buffer.
@@ -77,8 +63,8 @@ fn write<R: Register>(register: &mut R, buffer: &mut [u8])
 {
     let mut at = 0;
     while let Some(unit) = next_unit(register) {
-        write_record(&unit, &mut buffer[at..at + RECORD]);
-        at += RECORD;
+        write_record(&unit, &mut buffer[at..at + RECORD_SIZE]);
+        at += RECORD_SIZE;
     }
 }
 
@@ -92,7 +78,7 @@ pub fn pack<R: Register>(register: &mut R, buffer: &mut [u8]) -> Result<usize, P
     ensures back { IfOk result (λ n. told_course (packed_course (take n buffer.new)) ≡ record { units = map told (listed (R.Register.contents register.old)).units; ending = proper }) }
 {
     let count = walk(register, Layer::Packing, &mut Passing {})?;
-    let size = count as usize * RECORD;
+    let size = count as usize * RECORD_SIZE;
     if buffer.len() < size {
         return Err(PackingFault {
             fault: Fault::new(Rule::BufferShort, Layer::Packing, 0),

@@ -6,21 +6,13 @@ ghost use Rattle.model.specs.Packed.{packed_course};
 ghost use Rattle.packed.specs.Ranges.{falling as falling_bytes, ranged as ranged_bytes};
 ghost use Rattle.packed.specs.Walks.{coming, contents};
 
-use super::super::RECORD;
 use super::super::records::read;
 use super::Packed;
-use model::{PowerUnit, RegisterFault};
+use model::{PowerUnit, RECORD_SIZE, RegisterFault};
 use register::Register;
 
 // No day is later than the first unit's may be.
 const ANY_DAY: u32 = u32::MAX;
-
-// Reading one byte of a slice shows that each of its bytes is below 256.
-fn fit(bytes: &[u8]) -> bool
-    ensures { (k : ℕ) → slice_index bytes.now k < 256 }
-{
-    bytes.is_empty() || bytes[0] == 0
-}
 
 impl<'a> Packed<'a> {
     pub fn new(bytes: &'a [u8]) -> Packed<'a>
@@ -28,7 +20,6 @@ impl<'a> Packed<'a> {
         ensures restarted { coming result ≡ told_course (packed_course bytes.now) }
         ensures bytes { result.bytes.now ≡ bytes.now }
     {
-        fit(bytes);
         Packed {
             bytes,
             rest: bytes,
@@ -67,7 +58,7 @@ impl Register for Packed<'_> {
         if self.rest.is_empty() {
             return Ok(None);
         }
-        let (record, later) = self.rest.split_at(self.rest.len().min(RECORD));
+        let (record, later) = self.rest.split_at(self.rest.len().min(RECORD_SIZE));
         let unit = read(self.index, self.latest, record)?;
         self.rest = later;
         self.index = self.index.saturating_add(1);
