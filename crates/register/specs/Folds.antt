@@ -1,5 +1,7 @@
 -- What a fold over a register's units may rely on.
-use Rattle.std.specs.Prelude.{ℕ, ◌*◌, ◌<◌, ◌≤◌, Some, None, Option}
+use Rattle.std.specs.Prelude.{◌≡◌, ℕ, ◌*◌, ◌<◌, ◌≤◌, length, min, Some, None, Ok, Err, Option, Result}
+use Rattle.model.specs.Course.{Course, proper, faulty}
+use Rattle.model.specs.declared.faults.RegisterFault.{RegisterFault}
 use Rattle.model.specs.declared.units.PowerUnit.{PowerUnit}
 
 abbrev pub AtMost : ℕ → Option ℕ → Type 0
@@ -18,3 +20,8 @@ pub record Room {S : Type 0} (fits : S → ℕ → Type 0) (s : S) : Type 0 wher
   pub taken : ℕ
   pub few : taken < 4000
   pub still : fits s taken
+
+-- what is told of a course that was walked to its end: how many units it has, as far as 32 bits go, or its fault
+abbrev pub Counted : Course PowerUnit → Result ℕ RegisterFault → Type 0
+Counted c (Ok n) = (c.ending ≡ proper) × (n ≡ min (length c.units) 4294967295)
+Counted c (Err f) = c.ending ≡ faulty f.fault

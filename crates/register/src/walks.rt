@@ -1,10 +1,11 @@
 // The one walk over a register, for every sum, count and scan.
 ghost use Rattle.std.specs.Prelude.{◌≡◌, ℕ, ◌+◌, ◌<◌, ◌≤◌, map, length, take, IfOk, Ok, Err, fold as folded};
+ghost use Rattle.std.specs.List.{AllByRecursion};
 ghost use Rattle.model.specs.Course.{if_walked, told_course};
 ghost use Rattle.model.specs.History.{listed};
 ghost use Rattle.model.specs.Units.{told};
 ghost use Rattle.model.specs.declared.units.PowerUnit.{PowerUnit};
-ghost use Rattle.register.specs.Folds.{Cap, Room};
+ghost use Rattle.register.specs.Folds.{Cap, Counted, Room};
 ghost use Rattle.std.proofs.Common.{rules};
 
 use super::Register;
@@ -13,7 +14,8 @@ use model::{Fault, Layer, PowerUnit, RegisterFault, Rule};
 // The most units that a walk takes.
 const LIMIT: u32 = 4_000;
 
-// What a walk does with each unit, one after another.
+// What a walk does with each unit, one after another. No closure: each caller would show at its every call that the sums have room
+// for any unit; the laws show that once for each fold.
 pub trait Fold {
     // Before any unit.
     ghost cleared: { Self → Self };
@@ -39,7 +41,7 @@ pub trait Fold {
 
 // A walk that only goes to the end.
 #[derive(Clone, Copy)]
-pub struct Passing {}
+pub struct Passing;
 
 impl Fold for Passing {
     ghost cleared = { λ s. s };
@@ -57,6 +59,25 @@ impl Fold for Passing {
     fn take(&mut self, unit: &PowerUnit) {}
 }
 
+// Takes the units still to come, the first of them with the fold, and tells how many there were; 2^32 - 1 stands for any more.
+fn take_coming<R: Register, F: Fold>(register: &mut R, fold: &mut F) -> Result<u32, RegisterFault>
+    requires begun { F.Fold.fits fold.old 0 }
+    requires capped { AllByRecursion Cap (R.Register.coming register.old).units }
+    ensures contents { R.Register.contents register.new ≡ R.Register.contents register.old }
+    ensures folded { fold.new ≡ folded F.Fold.step fold.old (take 4000 (R.Register.coming register.old).units) }
+    ensures counts { Counted (R.Register.coming register.old) result }
+    ensures fits { IfOk result (λ n. n ≤ 4000 → F.Fold.fits fold.new n) }
+{
+    let mut count: u32 = 0;
+    while let Some(unit) = register.next()? {
+        if count < LIMIT {
+            fold.take(&unit);
+        }
+        count = count.saturating_add(1);
+    }
+    Ok(count)
+}
+
 // Walks to the end and tells the number of units. The register's own fault comes first, then a 4,001st unit, which has the
 // asker's layer. The fold has taken the first 4,000 units, and the register is left restarted, refused or not.
 pub fn walk<R: Register, F: Fold>(
@@ -72,27 +93,9 @@ pub fn walk<R: Register, F: Fold>(
 {
     register.restart();
     fold.clear();
-    let mut count: u32 = 0;
-    'walk: loop {
-        match register.next() {
-            Ok(got) => match got {
-                Some(unit) => {
-                    if count < LIMIT {
-                        fold.take(&unit);
-                        count += 1;
-                    } else {
-                        count = LIMIT + 1;
-                    }
-                }
-                None => break,
-            },
-            Err(fault) => {
-                register.restart();
-                return Err(fault);
-            }
-        }
-    }
+    let walked = take_coming(register, fold);
     register.restart();
+    let count = walked?;
     if count > LIMIT {
         return Err(RegisterFault {
             fault: Fault::new(Rule::TooManyUnits, layer, 0),
