@@ -1,11 +1,12 @@
 -- What is still to come through a layer.
-use Rattle.std.specs.Prelude.{◌≡◌, ℕ, Bool, cond, List, [], ◌∷◌, Some, None, Ok, Err, Option, Result}
+use Rattle.std.specs.Prelude.{◌≡◌, Bool, cond, List, [], ◌∷◌, Some, None, Ok, Err, Option, Result}
 use Rattle.model.specs.Course.{Course, faulty, proper}
 use Rattle.model.specs.Merge.{ImportOf, ends_through, imported, merged_course, with_last}
 use Rattle.model.specs.Units.{told}
 use Rattle.model.specs.declared.faults.RegisterFault.{RegisterFault}
 use Rattle.model.specs.declared.faults.Side.{Side}
 use Rattle.model.specs.declared.units.PowerUnit.{PowerUnit}
+use Rattle.layers.specs.declared.imports.ImportEntry.{ImportEntry}
 
 -- a unit that waits before the others
 abbrev pub ahead : {A : Type 0} → Option A → List A → List A
@@ -26,8 +27,8 @@ Peeked side o before (Ok (Some u)) after = (ahead o before.units ≡ u ∷ after
 Peeked side o before (Err f) after = (o ≡ None) × (before.units ≡ []) × (after.units ≡ []) × (after.ending ≡ before.ending) × (ends_through side before.ending ≡ faulty f.fault)
 
 -- the numbers of an import
-abbrev pub import_of : ℕ → ℕ → ℕ → ImportOf
-import_of code generation factor = record { code = code; generation = generation; factor = factor }
+abbrev pub import_of : ImportEntry → ImportOf
+import_of e = record { code = e.code; generation = e.generation; factor = e.factor }
 
 -- What the register has still to come, with the import last; nothing once that was told.
 abbrev pub import_coming : Bool → ImportOf → Course PowerUnit → Course PowerUnit

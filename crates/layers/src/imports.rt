@@ -1,6 +1,7 @@
 // A register with power from another grid as one last unit.
 ghost use Rattle.std.specs.Prelude.{◌≡◌, ℕ, ◌≤◌, cond, IfOk, Some, None, MatchResult, refl};
 ghost use Rattle.model.specs.Course.{told_course};
+ghost use Rattle.model.specs.Faults.{new_fault};
 ghost use Rattle.model.specs.History.{import, listed};
 ghost use Rattle.model.specs.Merge.{import_fault, imported};
 ghost use Rattle.model.specs.Units.{told};
@@ -12,21 +13,34 @@ ghost use Rattle.std.proofs.Common.{rules, arith};
 use model::{Class, Fault, Layer, PowerUnit, RegisterFault, Rule};
 use register::Register;
 
+// In MWh.
+const MOST_GENERATION: u32 = 100_000_000;
+
+// In g/MWh.
+const MOST_FACTOR: u32 = 10_000_000;
+
+// The numbers of an import as they are asked for; `Import::new` refuses those that are out of range.
+#[derive(Clone, Copy, PartialEq, Eq, Debug)]
+pub struct ImportEntry {
+    pub code: u16,
+    // In MWh.
+    pub generation: u32,
+    // In g/MWh.
+    pub factor: u32,
+}
+
 // Over a register that ends in a fault it adds no unit.
 #[derive(Drop)]
 pub struct Import<R> {
     register: R,
-    code: u16,
-    generation: u32,
-    // In g/MWh.
-    factor: u32,
+    entry: ImportEntry,
     // Whether the last unit was told already.
     given: bool,
-    ghost coded: { 1 ≤ code },
-    ghost short: { code ≤ 65535 },
-    ghost some: { 1 ≤ generation },
-    ghost most: { generation ≤ 100000000 },
-    ghost light: { factor ≤ 10000000 },
+    ghost coded: { 1 ≤ entry.code },
+    ghost short: { entry.code ≤ 65535 },
+    ghost some: { 1 ≤ entry.generation },
+    ghost most: { entry.generation ≤ 100000000 },
+    ghost light: { entry.factor ≤ 10000000 },
 }
 
 // Why no import was made, and the register back as it stood.
@@ -36,39 +50,41 @@ pub struct RefusedImport<R> {
     pub fault: Fault,
 }
 
-fn refusal(code: u16, generation: u32, factor: u32) -> Option<Fault>
-    ensures { result ≡ import_fault (import_of code generation factor) }
-{
-    if code == 0 {
-        return Some(Fault::new(Rule::ZeroCode, Layer::Import, u32::from(code)));
+impl ImportEntry {
+    fn check(self) -> Result<(), Fault>
+        ensures { MatchResult result (λ _. import_fault (import_of self) ≡ None) (λ fault. import_fault (import_of self) ≡ Some fault) }
+    {
+        if self.code == 0 {
+            return Err(self.refusal(Rule::ZeroCode));
+        }
+        if self.generation < 1 || self.generation > MOST_GENERATION || self.factor > MOST_FACTOR {
+            return Err(self.refusal(Rule::OutOfRange));
+        }
+        Ok(())
     }
-    if generation < 1 || generation > 100_000_000 || factor > 10_000_000 {
-        return Some(Fault::new(Rule::OutOfRange, Layer::Import, u32::from(code)));
+
+    fn refusal(self, rule: Rule) -> Fault
+        ensures { result ≡ new_fault rule Layer.Import self.code }
+    {
+        Fault::new(rule, Layer::Import, u32::from(self.code))
     }
-    None
 }
 
 impl<R: Register> Import<R> {
     // Restarts the register, unless the import is refused.
-    pub fn new(
-        mut register: R,
-        code: u16,
-        generation: u32,
-        factor: u32,
-    ) -> Result<Import<R>, RefusedImport<R>>
-        ensures cases { MatchResult result (λ _. import_fault (import_of code generation factor) ≡ None) (λ x. (import_fault (import_of code generation factor) ≡ Some x.fault) × (x.register ≡ register)) }
-        ensures contents { IfOk result (λ i. import (R.Register.contents i.register) (import_of i.code i.generation i.factor) ≡ import (R.Register.contents register) (import_of code generation factor)) }
-        ensures coming { IfOk result (λ i. import_coming i.given (import_of i.code i.generation i.factor) (R.Register.coming i.register) ≡ told_course (listed (import (R.Register.contents register) (import_of code generation factor)))) }
+    pub fn new(mut register: R, entry: ImportEntry) -> Result<Import<R>, RefusedImport<R>>
+        ensures cases { MatchResult result (λ _. import_fault (import_of entry) ≡ None) (λ x. (import_fault (import_of entry) ≡ Some x.fault) × (x.register ≡ register)) }
+        ensures contents { IfOk result (λ i. import (R.Register.contents i.register) (import_of i.entry) ≡ import (R.Register.contents register) (import_of entry)) }
+        ensures coming { IfOk result (λ i. import_coming i.given (import_of i.entry) (R.Register.coming i.register) ≡ told_course (listed (import (R.Register.contents register) (import_of entry)))) }
     {
-        if let Some(fault) = refusal(code, generation, factor) {
+        // No `map_err`: its closure would take the register along.
+        if let Err(fault) = entry.check() {
             return Err(RefusedImport { register, fault });
         }
         register.restart();
         Ok(Import {
             register,
-            code,
-            generation,
-            factor,
+            entry,
             given: false,
         })
     }
@@ -82,25 +98,30 @@ impl<R> Import<R> {
     }
 
     fn last(&self) -> PowerUnit
-        ensures { result ≡ told (imported (import_of self.now.code self.now.generation self.now.factor)) }
+        ensures { result ≡ told (imported (import_of self.now.entry)) }
     {
+        let ImportEntry {
+            code,
+            generation,
+            factor,
+        } = self.entry;
         PowerUnit {
-            code: self.code,
+            code,
             day: 0,
             class: Class::Import,
-            generation: self.generation,
-            grams: u64::from(self.generation) * u64::from(self.factor),
+            generation,
+            grams: u64::from(generation) * u64::from(factor),
             default_grams: None,
         }
     }
 }
 
 impl<R: Register> Register for Import<R> {
-    ghost contents = { λ i. import (R.Register.contents i.register) (import_of i.code i.generation i.factor) };
+    ghost contents = { λ i. import (R.Register.contents i.register) (import_of i.entry) };
 
-    ghost coming = { λ i. import_coming i.given (import_of i.code i.generation i.factor) (R.Register.coming i.register) };
+    ghost coming = { λ i. import_coming i.given (import_of i.entry) (R.Register.coming i.register) };
 
-    ghost ranged = { λ r. ranged-last _ _ (R.Register.ranged r.register) (imported-ranged r.code r.generation r.factor r.coded r.short r.some r.most r.light) };
+    ghost ranged = { λ r. ranged-last _ _ (R.Register.ranged r.register) (imported-ranged r.entry r.coded r.short r.some r.most r.light) };
 
     ghost falling = { λ r. falling-last _ _ (R.Register.falling r.register) refl };
 

@@ -31,12 +31,9 @@ fn peek<R: Register>(
 {
     match ahead {
         Some(unit) => Ok(Some(unit)),
-        None => match register.next() {
-            Ok(unit) => Ok(unit),
-            Err(below) => Err(RegisterFault {
-                fault: below.fault.through(side),
-            }),
-        },
+        None => register.next().map_err(|below| RegisterFault {
+            fault: below.fault.through(side),
+        }),
     }
 }
 

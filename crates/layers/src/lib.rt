@@ -7,7 +7,7 @@ pub use joins::Join;
 
 mod imports;
 
-pub use imports::{Import, RefusedImport};
+pub use imports::{Import, ImportEntry, RefusedImport};
 
 mod facts;
 

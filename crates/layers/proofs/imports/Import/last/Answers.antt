@@ -6,6 +6,6 @@ use Rattle.layers.proofs.imports.Import.last.Goals as goal
 
 pub returns : goal.returns
 returns g c =
-    let i = c.args.self.now in
-    let whole : i.generation * i.factor ≡ rounded (ratio (i.generation * i.factor) 1) = rw (rounded-whole (i.generation * i.factor)) in
+    let e = c.args.self.now.entry in
+    let whole : e.generation * e.factor ≡ rounded (ratio (e.generation * e.factor) 1) = rw (rounded-whole (e.generation * e.factor)) in
     cc
