@@ -2,7 +2,7 @@
 use super::shared::{GRAM, HALVES, figures, grams, unit};
 use book::Book;
 use combined::combined_margin;
-use layers::{Import, Join};
+use layers::{Import, ImportEntry, Join};
 use method::Average;
 use model::Weights;
 use register::Register;
@@ -62,7 +62,12 @@ fn lived(heap: Global, codes: u16, day: u32) -> Result<Book, Fail> {
 fn two_lived_books_and_an_import_asked_twice(rt: HostRuntime) -> Result<(), Fail> {
     let older = lived(rt.alloc(), 13, 20_190_101)?;
     let newer = lived(rt.alloc(), 13, 20_200_101)?;
-    let Ok(mut grid) = Import::new(Join::new(older, newer), 99, 50, 100) else {
+    let entry = ImportEntry {
+        code: 99,
+        generation: 50,
+        factor: 100,
+    };
+    let Ok(mut grid) = Import::new(Join::new(older, newer), entry) else {
         return Err(Fail::new("refused"));
     };
     let expected = ([10, 20, 0], 1, (5, 0, 0));
