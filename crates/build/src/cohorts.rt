@@ -1,24 +1,14 @@
 // The build cohort: the sample run, or what takes its place where units of it are old.
 ghost use Rattle.std.specs.Prelude.{◌≡◌};
 ghost use Rattle.model.specs.Course.{told_course};
-ghost use Rattle.model.specs.Faults.{new_fault};
 ghost use Rattle.model.specs.History.{listed};
-ghost use Rattle.model.specs.declared.faults.Layer.TheVariants.{Build};
-ghost use Rattle.model.specs.declared.faults.Rule.TheVariants.{NoBuildUnit};
 ghost use Rattle.build.specs.Cohorts.{walked_cohort};
 
 use super::kinds::Kind;
+use super::refusals::refusal;
 use super::runs::{Quota, walk_run};
-use model::{BuildFault, Cohort, CohortSet, Fault, Layer, Rule};
+use model::{BuildFault, Cohort, CohortSet, Rule};
 use register::Register;
-
-pub(crate) fn no_build_unit() -> BuildFault
-    ensures { result ≡ record { fault = new_fault NoBuildUnit Build 0 } }
-{
-    BuildFault {
-        fault: Fault::new(Rule::NoBuildUnit, Layer::Build, 0),
-    }
-}
 
 // The cohort of the register's list. It leaves the register restarted.
 pub(crate) fn cohort<R: Register>(register: &mut R, reference: u32) -> Result<Cohort, BuildFault>
@@ -28,7 +18,7 @@ pub(crate) fn cohort<R: Register>(register: &mut R, reference: u32) -> Result<Co
 {
     let all = walk_run(register, reference, Quota::all())?.all;
     if all.units == 0 {
-        return Err(no_build_unit());
+        return Err(refusal(Rule::NoBuildUnit, 0));
     }
     let sample = walk_run(register, reference, Quota::sample(all.generation))?;
     let kept = sample.young;

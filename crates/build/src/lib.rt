@@ -5,6 +5,7 @@ mod cohorts;
 mod kinds;
 mod margins;
 mod members;
+mod refusals;
 mod runs;
 
 pub use margins::build_margin;

@@ -5,9 +5,10 @@ ghost use Rattle.model.specs.Course.{told_course};
 ghost use Rattle.model.specs.History.{listed};
 ghost use Rattle.build.specs.Margins.{mean_of};
 
-use super::cohorts::{cohort, no_build_unit};
+use super::cohorts::cohort;
 use super::members::{Sums, walk_members};
-use model::{BuildFault, BuildMargin, Day, Fault, Layer, Ratio, Rule};
+use super::refusals::refusal;
+use model::{BuildFault, BuildMargin, Day, Ratio, Rule};
 use register::Register;
 
 // In g/MWh, unless a member has no emission to count.
@@ -16,14 +17,10 @@ fn mean(sums: Sums) -> Result<u32, BuildFault>
     ensures { result ≡ mean_of sums }
 {
     if let Some(code) = sums.lacking {
-        return Err(BuildFault {
-            fault: Fault::new(Rule::NoDefault, Layer::Build, u32::from(code)),
-        });
+        return Err(refusal(Rule::NoDefault, u32::from(code)));
     }
     // A cohort has members: this refuses none.
-    let Some(ratio) = Ratio::new(sums.grams, sums.generation) else {
-        return Err(no_build_unit());
-    };
+    let ratio = Ratio::new(sums.grams, sums.generation).ok_or(refusal(Rule::NoBuildUnit, 0))?;
     Ok(ratio.rounded() as u32)
 }
 

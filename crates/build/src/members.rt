@@ -10,7 +10,7 @@ use super::kinds::{is_old, is_unregistered};
 use model::{BuildFault, Cohort, CohortSet, Layer, PowerUnit};
 use register::{Fold, Register, walk};
 
-#[derive(Clone, Copy)]
+#[derive(Clone, Copy, Default)]
 pub struct Sums {
     pub grams: u64,
     // In MWh.
@@ -30,16 +30,6 @@ struct Members {
 }
 
 impl Sums {
-    fn none() -> Sums
-        ensures { result ≡ no_sums }
-    {
-        Sums {
-            grams: 0,
-            generation: 0,
-            lacking: None,
-        }
-    }
-
     fn with(self, unit: &PowerUnit, grams: Option<u64>) -> Sums
         requires room { (self.grams ≤ 4000000000000000000) × (self.generation ≤ 400000000000) }
         requires few_grams { AtMost 1000000000000000 grams }
@@ -50,12 +40,12 @@ impl Sums {
             Some(grams) => Sums {
                 grams: self.grams + grams,
                 generation,
-                lacking: self.lacking,
+                ..self
             },
             None => Sums {
-                grams: self.grams,
                 generation,
                 lacking: self.lacking.or(Some(unit.code)),
+                ..self
             },
         }
     }
@@ -100,7 +90,7 @@ impl Fold for Members {
 
     fn clear(&mut self) {
         self.left = self.cohort.counts;
-        self.sums = Sums::none();
+        self.sums = Sums::default();
     }
 
     fn take(&mut self, unit: &PowerUnit) {
@@ -128,7 +118,7 @@ pub(crate) fn walk_members<R: Register>(
         reference,
         cohort,
         left: cohort.counts,
-        sums: Sums::none(),
+        sums: Sums::default(),
     };
     let _ = walk(register, Layer::Build, &mut members)?;
     Ok(members.sums)

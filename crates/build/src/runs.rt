@@ -15,14 +15,14 @@ const ALL: u16 = 4_001;
 // A sample run has at least so many units, or all there are.
 const SAMPLE: u16 = 5;
 
-#[derive(Clone, Copy)]
+#[derive(Clone, Copy, Default)]
 pub struct Tally {
     pub units: u16,
     // In MWh.
     pub generation: u64,
 }
 
-#[derive(Clone, Copy)]
+#[derive(Clone, Copy, Default)]
 pub struct Run {
     pub all: Tally,
     // Those of them that are not old.
@@ -58,19 +58,6 @@ impl Tally {
 }
 
 impl Run {
-    fn none() -> Run
-        ensures { result ≡ no_run }
-    {
-        let none = Tally {
-            units: 0,
-            generation: 0,
-        };
-        Run {
-            all: none,
-            young: none,
-        }
-    }
-
     fn with(self, generation: u32, old: bool) -> Run
         requires all_room { (self.all.units < 4000) × (self.all.generation ≤ 400000000000) }
         requires young_room { (self.young.units < 4000) × (self.young.generation ≤ 400000000000) }
@@ -140,7 +127,7 @@ impl Fold for Growing {
     ghost room = { Prim.search rules };
 
     fn clear(&mut self) {
-        self.run = Run::none();
+        self.run = Run::default();
     }
 
     fn take(&mut self, unit: &PowerUnit) {
@@ -164,7 +151,7 @@ pub(crate) fn walk_run<R: Register>(
     let mut growing = Growing {
         reference,
         quota,
-        run: Run::none(),
+        run: Run::default(),
     };
     let _ = walk(register, Layer::Build, &mut growing)?;
     Ok(growing.run)

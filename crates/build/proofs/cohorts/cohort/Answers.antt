@@ -10,7 +10,7 @@ returns-then-all-eq0 g c =
     record {
       contents = e.contents;
       restarted = e.restarted;
-      answer = cohort-none c.args.reference (listed (g.R.Register.contents c.args.register.now)) _ c.all.ensures _ e.answer _ c.no_build_unit.ensures c.if-all-eq0.true;
+      answer = cohort-none c.args.reference (listed (g.R.Register.contents c.args.register.now)) _ c.all.ensures _ e.answer _ c.refusal.ensures c.if-all-eq0.true;
     }
 
 pub returns-then-kept-sample : goal.returns-then-kept-sample

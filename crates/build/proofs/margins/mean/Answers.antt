@@ -5,5 +5,6 @@ use Rattle.build.proofs.margins.mean.Goals as goal
 
 pub overflow_cast-result : goal.overflow_cast-result
 overflow_cast-result c =
-    let q = c.in-Some-new.ratio in
-    omega (arith, rounded-cap (ratio q.num q.den) 10000000 q.real (omega (arith, c.in-Some-new.ensures)), c.rounded.ensures.value)
+    let q = c.in_ok-ratio.ratio in
+    let made = rw c.in_ok-ratio.ensures.ok_part at c.new.ensures in
+    omega (arith, rounded-cap (ratio q.num q.den) 10000000 q.real (omega (arith, made)), c.rounded.ensures.value)
