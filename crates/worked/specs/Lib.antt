@@ -1,3 +1,4 @@
+pub mod Asked
 pub mod Grids
 pub mod Struck
 pub mod Example

@@ -5,43 +5,10 @@ ghost use Rattle.model.specs.History.{listed, year_book};
 ghost use Rattle.book.specs.Seen.{Restarted, seen};
 ghost use Rattle.worked.specs.Struck.{beside_it, coal, entered_again, standing_units};
 
+use super::entries::{COAL, FORMER, LATTER, OTHER};
 use book::Book;
-use model::{BurnEntry, Fuel, UnitEntry};
+use model::BurnEntry;
 use std::alloc::{AllocError, Global};
-
-const COAL: Fuel = Fuel {
-    code: 1,
-    heat_content: 25_800,
-    carbon_factor: 94_600,
-};
-
-// Unit 7 as it is entered first, and as it is entered again.
-const FORMER: UnitEntry = UnitEntry {
-    code: 7,
-    class: 0,
-    day: 20_010_203,
-    generation: 1_000,
-    efficiency: 0,
-    default_efficiency: 0,
-};
-
-const LATTER: UnitEntry = UnitEntry {
-    code: 7,
-    class: 0,
-    day: 20_220_101,
-    generation: 500,
-    efficiency: 0,
-    default_efficiency: 380,
-};
-
-const OTHER: UnitEntry = UnitEntry {
-    code: 9,
-    class: 2,
-    day: 20_150_601,
-    generation: 3_000,
-    efficiency: 0,
-    default_efficiency: 0,
-};
 
 // 400 tonnes burned in unit 7, which is then struck and entered again with 10 tonnes; unit 9 stands beside it. What the
 // first unit 7 burned is gone with it.

@@ -2,6 +2,7 @@
 // the calls what their contracts say.
 #![tactic(auto)]
 
+mod entries;
 mod packings;
 
 pub use packings::pack_join;
@@ -12,4 +13,4 @@ pub use journals::re_entered;
 
 mod questions;
 
-pub use questions::{both_questions, through_layers};
+pub use questions::{Answer, both_questions, through_layers};

@@ -1,40 +1,19 @@
 // The worked example: two units, one burn, and a question at each of two reference days.
 ghost use Rattle.std.specs.Prelude.{◌≡◌, IfOk, Ok};
 ghost use Rattle.book.specs.Seen.{seen};
+ghost use Rattle.worked.specs.Asked.{Asked};
 ghost use Rattle.worked.specs.Example.{at_first, example_contents, later};
 ghost use Rattle.worked.specs.Joined.{joined_first, joined_later};
 
+use super::entries::{COAL, MUST_RUN, PLANT};
 use super::re_entered;
 use book::Book;
 use combined::combined_margin;
-use layers::{Import, Join};
+use layers::{Import, ImportEntry, Join};
 use method::Average;
-use model::{BurnEntry, CombinedFault, CombinedMargin, Fuel, UnitEntry, Weights};
+use model::{BurnEntry, CombinedFault, CombinedMargin, Weights};
+use register::Register;
 use std::alloc::{AllocError, Global};
-
-const COAL: Fuel = Fuel {
-    code: 1,
-    heat_content: 25_800,
-    carbon_factor: 94_600,
-};
-
-const PLANT: UnitEntry = UnitEntry {
-    code: 1,
-    class: 0,
-    day: 20_200_101,
-    generation: 1_000,
-    efficiency: 0,
-    default_efficiency: 0,
-};
-
-const MUST_RUN: UnitEntry = UnitEntry {
-    code: 2,
-    class: 1,
-    day: 20_150_601,
-    generation: 3_000,
-    efficiency: 0,
-    default_efficiency: 0,
-};
 
 const HALVES: Weights = Weights {
     operating: 50,
@@ -57,45 +36,38 @@ fn example(heap: Global) -> Result<Book, AllocError>
     Ok(book)
 }
 
-// Both questions by the average method, with equal weights. Ten years after the must-run unit's start it is old, and the build
-// margin is the plant's alone.
-pub fn both_questions(
-    heap: Global,
-) -> Result<
-    (
-        Result<CombinedMargin, CombinedFault>,
-        Result<CombinedMargin, CombinedFault>,
-    ),
-    AllocError,
->
+// Power from another grid.
+const POWER: ImportEntry = ImportEntry {
+    code: 5,
+    generation: 2_000,
+    factor: 300_000,
+};
+
+pub type Answer = Result<CombinedMargin, CombinedFault>;
+
+// Both questions by the average method, with equal weights.
+fn ask_both<R: Register>(register: &mut R) -> (Answer, Answer)
+    ensures first { Asked 20240630 (R.Register.contents register.old) result.0 }
+    ensures second { Asked 20260101 (R.Register.contents register.old) result.1 }
+{
+    let first = combined_margin(&Average {}, register, HALVES, 20_240_630);
+    let second = combined_margin(&Average {}, register, HALVES, 20_260_101);
+    (first, second)
+}
+
+// Ten years after the must-run unit's start it is old, and the build margin is the plant's alone.
+pub fn both_questions(heap: Global) -> Result<(Answer, Answer), AllocError>
     ensures { IfOk result (λ answers. (answers.0 ≡ Ok at_first) × (answers.1 ≡ Ok later)) }
 {
-    let mut book = example(heap)?;
-    let first = combined_margin(&Average {}, &mut book, HALVES, 20_240_630);
-    let second = combined_margin(&Average {}, &mut book, HALVES, 20_260_101);
-    Ok((first, second))
+    Ok(ask_both(&mut example(heap)?))
 }
 
 // The same two questions over the example's book joined with one that has a unit struck and entered again, and with power from
-// another grid above both: 2,000 MWh at 300,000 g/MWh.
-pub fn through_layers(
-    heap: Global,
-) -> Result<
-    (
-        Result<CombinedMargin, CombinedFault>,
-        Result<CombinedMargin, CombinedFault>,
-    ),
-    AllocError,
->
+// another grid above both.
+pub fn through_layers(heap: Global) -> Result<(Answer, Answer), AllocError>
     ensures { IfOk result (λ answers. (answers.0 ≡ Ok joined_first) × (answers.1 ≡ Ok joined_later)) }
 {
     let both = Join::new(example(heap)?, re_entered(heap)?);
-    let mut grid = match Import::new(both, 5, 2_000, 300_000) {
-        Ok(import) => import,
-        // The numbers are in range.
-        Err(_) => unreachable(),
-    };
-    let first = combined_margin(&Average {}, &mut grid, HALVES, 20_240_630);
-    let second = combined_margin(&Average {}, &mut grid, HALVES, 20_260_101);
-    Ok((first, second))
+    let mut grid = Import::new(both, POWER).unwrap();
+    Ok(ask_both(&mut grid))
 }
