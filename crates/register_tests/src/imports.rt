@@ -1,24 +1,30 @@
 // The import over any register.
-use super::shared::{failing, fault, fleet, six_of};
-use layers::{Import, Join};
+use super::shared::{failing, fault, fleet, import, six_of};
+use layers::{Import, ImportEntry, Join};
 use model::{Class, Fault, Layer, Rule};
 use register::Register;
 use std::process::Abort;
 use std::test::Fail;
 
+// 1 MWh without emission.
+const SMALL: ImportEntry = ImportEntry {
+    code: 9,
+    generation: 1,
+    factor: 0,
+};
+
 #[test]
 fn one_last_unit(rt: HostRuntime) -> Result<(), Fail> {
-    let made = Import::new(fleet(1, 20_200_101, 1)?, 9, 100_000_000, 10_000_000);
-    let Ok(mut import) = made else {
-        return Err(Fail::new("refused"));
+    let entry = ImportEntry {
+        code: 9,
+        generation: 100_000_000,
+        factor: 10_000_000,
     };
+    let mut import = import(fleet(1, 20_200_101, 1)?, entry)?;
     assert_eq!(rt; six_of(&mut import).codes, [1, 9, 0, 0, 0, 0]);
     import.restart();
     let _ = import.next();
-    let Ok(got) = import.next() else {
-        return Err(Fail::new("a fault"));
-    };
-    let unit = got.ok_or("no unit")?;
+    let unit = import.next()?.ok_or("no unit")?;
     assert_eq!(rt; unit.day, 0);
     assert_eq!(rt; unit.class, Class::Import);
     assert_eq!(rt; unit.generation, 100_000_000);
@@ -29,10 +35,7 @@ fn one_last_unit(rt: HostRuntime) -> Result<(), Fail> {
 
 #[test]
 fn none_over_a_fault(rt: HostRuntime) -> Result<(), Fail> {
-    let made = Import::new(failing(1, 20_200_101, 1, fault(7, 5))?, 9, 1, 0);
-    let Ok(mut import) = made else {
-        return Err(Fail::new("refused"));
-    };
+    let mut import = import(failing(1, 20_200_101, 1, fault(7, 5))?, SMALL)?;
     let told = six_of(&mut import);
     assert_eq!(rt; told.codes, [1, 0, 0, 0, 0, 0]);
     assert_eq!(rt; told.fault, Some(fault(7, 5)), "whole, with its trail");
@@ -42,18 +45,19 @@ fn none_over_a_fault(rt: HostRuntime) -> Result<(), Fail> {
 fn refused(rt: &impl Abort, code: u16, generation: u32, factor: u32) -> Result<Fault, Fail> {
     let mut below = fleet(1, 20_200_101, 2)?;
     let _ = below.next();
-    match Import::new(below, code, generation, factor) {
-        Ok(_) => Err(Fail::new("not refused")),
-        Err(back) => {
-            let mut register = back.register;
-            assert_eq!(rt;
-                six_of(&mut register).codes,
-                [1, 0, 0, 0, 0, 0],
-                "as it stood"
-            );
-            Ok(back.fault)
-        }
-    }
+    let entry = ImportEntry {
+        code,
+        generation,
+        factor,
+    };
+    let back = Import::new(below, entry).err().ok_or("not refused")?;
+    let mut register = back.register;
+    assert_eq!(rt;
+        six_of(&mut register).codes,
+        [1, 0, 0, 0, 0, 0],
+        "as it stood"
+    );
+    Ok(back.fault)
 }
 
 #[test]
@@ -80,9 +84,7 @@ fn refusals_in_order(rt: HostRuntime) -> Result<(), Fail> {
 // The import of one grid stands behind every home unit of both.
 #[test]
 fn below_a_join(rt: HostRuntime) -> Result<(), Fail> {
-    let Ok(import) = Import::new(fleet(1, 20_200_101, 1)?, 9, 1, 0) else {
-        return Err(Fail::new("refused"));
-    };
+    let import = import(fleet(1, 20_200_101, 1)?, SMALL)?;
     let mut join = Join::new(import, fleet(2, 19_000_101, 1)?);
     assert_eq!(rt; six_of(&mut join).codes, [1, 2, 9, 0, 0, 0]);
     let (import, _) = join.into_parts();

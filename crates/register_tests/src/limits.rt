@@ -8,10 +8,7 @@ use register::{Passing, Register, walk};
 use std::test::Fail;
 
 fn walked<R: Register>(register: &mut R) -> Result<u32, Fault> {
-    match walk(register, Layer::Build, &mut Passing {}) {
-        Ok(units) => Ok(units),
-        Err(below) => Err(below.fault),
-    }
+    walk(register, Layer::Build, &mut Passing).map_err(|below| below.fault)
 }
 
 #[test]
@@ -34,10 +31,7 @@ fn a_fault_far_behind(rt: HostRuntime) -> Result<(), Fail> {
 }
 
 fn packed(register: &mut Fleet, buffer: &mut [u8]) -> Result<usize, Fault> {
-    match pack(register, buffer) {
-        Ok(written) => Ok(written),
-        Err(above) => Err(above.fault),
-    }
+    pack(register, buffer).map_err(|above| above.fault)
 }
 
 #[test]

@@ -1,6 +1,6 @@
 // Packing into a buffer, and reading it back.
-use super::shared::{failing, fault, fleet, six_of};
-use layers::{Import, Join};
+use super::shared::{failing, fault, fleet, import, six_of};
+use layers::{ImportEntry, Join};
 use model::{Fault, Layer, Rule};
 use packed::{Packed, pack};
 use register::Register;
@@ -10,14 +10,15 @@ use std::test::Fail;
 #[test]
 fn through_every_layer(rt: HostRuntime) -> Result<(), Fail> {
     let join = Join::new(fleet(1, 20_200_101, 2)?, fleet(2, 20_210_101, 1)?);
-    let Ok(mut import) = Import::new(join, 9, 10, 500) else {
-        return Err(Fail::new("refused"));
+    let entry = ImportEntry {
+        code: 9,
+        generation: 10,
+        factor: 500,
     };
+    let mut import = import(join, entry)?;
     let _ = import.next();
     let mut buffer = [7u8; 129];
-    let Ok(written) = pack(&mut import, &mut buffer) else {
-        return Err(Fail::new("not packed"));
-    };
+    let written = pack(&mut import, &mut buffer)?;
     assert_eq!(rt; written, 128);
     assert_eq!(rt; buffer[128], 7, "the rest is left");
     let mut back = Packed::new(&buffer[0..128]);
@@ -31,9 +32,7 @@ fn through_every_layer(rt: HostRuntime) -> Result<(), Fail> {
 fn the_bytes_of_a_record(rt: HostRuntime) -> Result<(), Fail> {
     let mut register = fleet(0x1234, 20_200_101, 1)?;
     let mut buffer = [0u8; 32];
-    let Ok(_) = pack(&mut register, &mut buffer) else {
-        return Err(Fail::new("not packed"));
-    };
+    let _ = pack(&mut register, &mut buffer)?;
     let written = [
         80, 0, 0x12, 0x34, 0x01, 0x34, 0x3a, 0xa5, 0, 0, 0, 100, 0, 0, 0, 0, 0, 0, 0, 0, 0, 0,
         0xc3, 0x50, 0, 0, 0, 0, 0, 0, 0, 0,
@@ -43,10 +42,7 @@ fn the_bytes_of_a_record(rt: HostRuntime) -> Result<(), Fail> {
 }
 
 fn refused<R: Register>(register: &mut R, buffer: &mut [u8]) -> Result<Fault, Fail> {
-    match pack(register, buffer) {
-        Ok(_) => Err(Fail::new("not refused")),
-        Err(above) => Ok(above.fault),
-    }
+    Ok(pack(register, buffer).err().ok_or("not refused")?.fault)
 }
 
 #[test]
@@ -73,9 +69,7 @@ fn a_fault_comes_before_the_buffer(rt: HostRuntime) -> Result<(), Fail> {
 fn nothing_to_pack(rt: HostRuntime) -> Result<(), Fail> {
     let mut register = fleet(1, 20_200_101, 0)?;
     let mut buffer = [7u8; 1];
-    let Ok(written) = pack(&mut register, &mut buffer[0..0]) else {
-        return Err(Fail::new("not packed"));
-    };
+    let written = pack(&mut register, &mut buffer[0..0])?;
     assert_eq!(rt; written, 0);
     Ok(())
 }

@@ -1,5 +1,6 @@
 // What the tests share: fleets, P records, and what a register tells.
 use super::Fleet;
+use layers::{Import, ImportEntry};
 use model::{Day, Fault, Layer, Rule};
 use register::Register;
 use std::test::Fail;
@@ -13,22 +14,21 @@ pub struct Seen {
 
 // Takes up to six units.
 pub fn six_of<R: Register>(register: &mut R) -> Seen {
-    let mut codes = [0u16; 6];
-    for at in 0..6 {
+    let mut seen = Seen {
+        codes: [0; 6],
+        fault: None,
+    };
+    for code in seen.codes.iter_mut() {
         match register.next() {
-            Ok(got) => match got {
-                Some(unit) => codes[at] = unit.code,
-                None => return Seen { codes, fault: None },
-            },
+            Ok(Some(unit)) => *code = unit.code,
+            Ok(None) => break,
             Err(below) => {
-                return Seen {
-                    codes,
-                    fault: Some(below.fault),
-                };
+                seen.fault = Some(below.fault);
+                break;
             }
         }
     }
-    Seen { codes, fault: None }
+    seen
 }
 
 pub fn fleet(code: u16, day: u32, units: u32) -> Result<Fleet, Fail> {
@@ -51,13 +51,13 @@ pub fn failing(code: u16, day: u32, units: u32, fault: Fault) -> Result<Fleet, F
 }
 
 fn ending(code: u16, day: u32, units: u32, fault: Option<Fault>) -> Result<Fleet, Fail> {
-    let Some(day) = Day::new(day) else {
-        return Err(Fail::new("no such day"));
-    };
-    match Fleet::new(code, day, units, fault) {
-        Some(fleet) => Ok(fleet),
-        None => Err(Fail::new("no such code")),
-    }
+    let day = Day::new(day).ok_or("no such day")?;
+    Ok(Fleet::new(code, day, units, fault).ok_or("no such code")?)
+}
+
+// The import over the register, unless its numbers are refused.
+pub fn import<R: Register + Drop>(register: R, entry: ImportEntry) -> Result<Import<R>, Fail> {
+    Import::new(register, entry).map_err(|_| Fail::new("refused"))
 }
 
 // A P record written field by field.
