@@ -7,6 +7,7 @@ use model::PowerUnit;
 // Ten years, as days are written.
 const TEN_YEARS: u64 = 100_000;
 
+// Named, and no closure: a definition reads off the kind which units join, and of a closure it would say no more.
 #[derive(Clone, Copy)]
 pub enum Kind {
     // Home units that are not registered.
@@ -17,7 +18,8 @@ pub enum Kind {
     Old,
 }
 
-// The unit started more than ten years before the reference day.
+// The unit started more than ten years before the reference day. The day goes by its number, since days are compared as they are
+// written.
 pub(crate) fn is_old(reference: u32, unit: &PowerUnit) -> bool
     ensures { result ≡ long_ago reference unit.now }
 {

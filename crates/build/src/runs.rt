@@ -137,7 +137,8 @@ impl Fold for Growing {
     }
 }
 
-// The first units that meet the quota, or all of its kind. It leaves the register restarted.
+// The first units that meet the quota, or all of its kind. It leaves the register restarted. What it shares with `walk_members` is
+// `walk`; a generic function around that would take as many lines.
 pub(crate) fn walk_run<R: Register>(
     register: &mut R,
     reference: u32,
