@@ -1,6 +1,7 @@
 -- Lists of like units.
 use Rattle.std.specs.Prelude.{◌≡◌, ℕ, zero, suc, ◌-◌, ◌≤◌, true, ◌∷◌, replicate, refl}
 use Rattle.std.proofs.Common.{arith}
+use Rattle.std.proofs.lemmas.List.Elements.{All-replicate, recursion_from_All}
 use Rattle.std.specs.List.{AllByRecursion}
 use Rattle.model.specs.Calendar.{is_day}
 use Rattle.model.specs.Units.{Falling, InRange, Listed}
@@ -8,8 +9,7 @@ use Rattle.register_tests.specs.Fleets.{fleet_unit}
 
 -- what holds of one holds of all
 pub all-like : {A : Type 0} (P : A → Type 0) (n : ℕ) (x : A) → P x → AllByRecursion P (replicate n x)
-all-like P zero x h = tt
-all-like P (suc n) x h = (h, all-like P n x h)
+all-like P n x h = recursion_from_All P (replicate n x) (All-replicate P n x h)
 
 pub like-falls : (n : ℕ) (u : Listed) → Falling (replicate n u)
 like-falls zero u = tt

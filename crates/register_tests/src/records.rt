@@ -50,6 +50,7 @@ fn rule_of(written: &Written) -> Option<Fault> {
 
 #[test]
 fn letters_and_fillers(rt: HostRuntime) {
+    // One filler byte at a time, by its index.
     for at in 13..16 {
         let mut bytes = SOUND.bytes();
         bytes[at] = 1;
