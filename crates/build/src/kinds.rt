@@ -7,7 +7,7 @@ use model::PowerUnit;
 // Ten years, as days are written.
 const TEN_YEARS: u64 = 100_000;
 
-// Named, and no closure: a definition reads off the kind which units join, and of a closure it would say no more.
+// No closure in its place: what a run is, is defined by which units a kind has, and no definition can name the units of a closure.
 #[derive(Clone, Copy)]
 pub enum Kind {
     // Home units that are not registered.
