@@ -1,12 +1,9 @@
 -- Groups of six hours: what refuses one, and the year with one more, by the groups that stand and by the year.
-use Rattle.std.proofs.Common.{◌≡◌, ℕ, ◌*◌, ◌/◌, ◌%◌, ◌<◌, ◌≤◌, Bool, true, false, cond, not, ◌&&◌, eqb, ltb, List, [], ◌∷◌, ◌++◌, length, get_or, take, Some, None, Decides, count_by, Option, Result, sym, refl, ap, ◌∙◌, inl, inr, arith}
+use Rattle.std.proofs.Common.{◌≡◌, ℕ, zero, suc, ◌*◌, ◌/◌, ◌%◌, ◌<◌, Bool, true, false, cond, not, ◌&&◌, eqb, ltb, List, [], ◌∷◌, ◌++◌, get_or, Some, None, count_by, Option, Result, sym, refl, ap, ◌∙◌, inl, inr, arith}
 use mathlib.Core.Logic.{∥∥₁_map}
 use mathlib.Core.Path.{fun_ext}
-use Rattle.std.specs.List.{AllByRecursion}
-use Rattle.std.proofs.ByRecursion.{All-get_or, Decides-by_and}
-use Rattle.std.proofs.lemmas.List.{take_all}
 use Rattle.std.proofs.lemmas.List.Sums.{fold_push}
-use Rattle.std.proofs.lemmas.Bool.{and_from, and_parts, and_right, both_ways, cases_Bool, cases_lt, cond-false, cond-true, eqb-false, eqb-true, le-ltb, lt-ltb, ltb-false, ne_eqb}
+use Rattle.std.proofs.lemmas.Bool.{and_from, and_parts, and_right, cases_Bool, cases_lt, cond-false, cond-true, eqb-false, eqb-true, le-ltb, lt-ltb, ltb-false, ne_eqb}
 use Rattle.model.specs.declared.faults.Fault.{Fault}
 use Rattle.model.specs.declared.faults.LoadFault.{LoadFault}
 use Rattle.model.specs.declared.records.LoadGroup.{LoadGroup}
@@ -17,24 +14,12 @@ use Rattle.model.proofs.Firsts.{count-cons, none-head}
 
 -- ---- the six loads
 
-abbrev pub Load : ℕ → Type 0
-Load n = is_load n ≡ true
-
-all-loads : (ns : List ℕ) → Decides (all_loads ns) (AllByRecursion Load ns)
-all-loads ns = Decides-by_and is_load Load all_loads (λ n. (λ e. e, λ e. e)) refl (λ n ns. refl) ns
-
-pub all-loads-yes : (ns : List ℕ) (i : ℕ) → length ns ≤ i → AllByRecursion Load (take i ns) → true ≡ all_loads ns
-all-loads-yes ns i l all = sym ((all-loads ns).1 (rw (take_all i ns l) at all))
-
-pub all-loads-no : (ns : List ℕ) (i : ℕ) → i < length ns → is_load (get_or ns i 0) ≡ false → false ≡ all_loads ns
-all-loads-no ns i l here =
-    elim (cases_Bool (all_loads ns)) [
-      | inl e ↦ absurd (both_ways (is_load (get_or ns i 0)) here (All-get_or Load ns i 0 l ((all-loads ns).0 e)))
-      | inr e ↦ sym e
-    ]
-
-pub all-loads-at : (ns : List ℕ) (i : ℕ) → i < length ns → all_loads ns ≡ true → is_load (get_or ns i 0) ≡ true
-all-loads-at ns i l e = All-get_or Load ns i 0 l ((all-loads ns).0 e)
+-- past the end of the list stands 0, which is a load
+pub all-loads-at : (ns : List ℕ) (i : ℕ) → all_loads ns ≡ true → is_load (get_or ns i 0) ≡ true
+unfolding is_load
+all-loads-at [] i e = refl
+all-loads-at (n ∷ ns) zero e = (and_parts (is_load n) (all_loads ns) e).0
+all-loads-at (n ∷ ns) (suc i) e = all-loads-at ns i (and_parts (is_load n) (all_loads ns) e).1
 
 -- ---- a group stands where its first hour has a load
 
@@ -104,8 +89,8 @@ module _ (hours : ℕ) where
       ]
 
   standing-refused : (b : Bool) (f k : Fault) → first_of ((not b, f) ∷ (true, k) ∷ []) ≡ None → ⊥
-  standing-refused true f k e = let z : ◌≡◌ {A = ℕ} 0 1 = cc in omega arith
-  standing-refused false f k e = let z : ◌≡◌ {A = ℕ} 0 1 = cc in omega arith
+  standing-refused true f k e = cc
+  standing-refused false f k e = cc
 
   -- a group that is not refused does not stand
   accepted-new : (gs : List LoadGroup) (g : LoadGroup) → group_fault hours gs g ≡ None → count_by (numbered g.group) gs ≡ 0

@@ -12,7 +12,7 @@ use Rattle.model.specs.Faults.{new_fault, stands_after, unless_refused}
 use Rattle.model.specs.LoadYears.{Hour, year_hours, ReachedYear, all_loads, group_year, has_load, load, missing_hour, with_group, year_after, year_group_answer, year_group_fault}
 use Rattle.load.specs.Tables.{placed, table_year}
 use Rattle.load.specs.Taking.{TakenIn}
-use Rattle.load.specs.Ranging.{Ranged, fault-no-load}
+use Rattle.load.specs.Ranging.{Ranged}
 use Rattle.load.proofs.Grouping.{all-loads-at, first-hour, living, of_group, reached-none, telling, with-its, with-other}
 
 abbrev Table : Type 0
@@ -56,7 +56,7 @@ module _ (hours : ℕ) where
     free-year = ap (table_year hours) is ∙ none-year n
 
     pub free-ranged : (h : ℕ) → Ranged (table_year hours table h)
-    free-ranged h m e = absurd (fault-no-load _ m (sym (ap (λ (year : ℕ → Hour). year h) free-year) ∙ e))
+    free-ranged h m e = let not : missing_hour h ≡ load m = sym (ap (λ (year : ℕ → Hour). year h) free-year) ∙ e in cc
 
     pub free-reached : ReachedYear hours (table_year hours table)
     free-reached = rw free-year (reached-none hours)
@@ -87,14 +87,14 @@ module _ (hours : ℕ) where
           | inr is ↦ past put h is ∙ sym (with-other hours (table_year hours table) g h (and_left _ _ is) ∙ past table h is)
         ]
 
-    pub put-ranged : length g.loads ≡ 6 → all_loads g.loads ≡ true → ((h : ℕ) → Ranged (table_year hours table h)) → (h : ℕ) → Ranged (table_year hours put h)
-    put-ranged six loads before h n is =
+    pub put-ranged : all_loads g.loads ≡ true → ((h : ℕ) → Ranged (table_year hours table h)) → (h : ℕ) → Ranged (table_year hours put h)
+    put-ranged loads before h n is =
         let now = sym (put-at h) ∙ is in
         elim (cases_Bool (of_group hours g h)) [
           | inl its ↦
               let e : load (get_or g.loads (h % 6) 0) ≡ load n = sym (with-its hours (table_year hours table) g h its) ∙ now in
               let same : get_or g.loads (h % 6) 0 ≡ n = cc in
-              rw (← same) (all-loads-at g.loads (h % 6) (omega arith) loads)
+              rw (← same) (all-loads-at g.loads (h % 6) loads)
           | inr other ↦ before h n (sym (with-other hours (table_year hours table) g h other) ∙ now)
         ]
 

@@ -8,15 +8,12 @@ use super::HOURS;
 pub fn total_load(loads: &[u32; HOURS]) -> u64
     ensures { result ≡ sum_by (λ l. l) loads.now }
 {
-    let mut total = 0;
-    for &load in loads {
-        total += u64::from(load);
-    }
-    total
+    loads.iter().map(|load| u64::from(*load)).sum()
 }
 
 // How many hours are low-cost: the energy under the load curve up to the hour's own load is less than the low-cost
-// generation, in MWh. An hour is left as soon as its energy reaches that, so the sum is exact wherever an hour counts.
+// generation, in MWh. An hour is left as soon as its energy reaches that, so the sum is exact wherever an hour counts. (Two
+// nested loops with a label, and no chain: a rule of the project.)
 pub fn low_cost_hours(loads: &[u32], low_cost: u64) -> usize
     ensures { result ≡ low_cost_hours loads.now low_cost }
 {

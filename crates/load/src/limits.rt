@@ -9,6 +9,7 @@ use model::{Fault, Layer, LoadFault, Rule};
 // In MW.
 pub(super) const MOST_LOAD: u32 = 2_000_000;
 
+#[tactic(auto, unfolding(model::specs::LoadYears::is_load))]
 pub fn is_load(number: u32) -> bool
     ensures { result ≡ is_load number }
 {

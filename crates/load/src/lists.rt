@@ -32,12 +32,15 @@ impl LoadYear for LoadList {
 
     ghost ranged = { λ l h. list-ranged year_hours h l.loads.items };
 
+    #[tactic(auto, unfolding(model::specs::LoadYears::is_load))]
     fn load(&self, hour: u32) -> Result<u32, LoadFault> {
         let place = hour as usize;
-        if place >= HOURS || place >= self.loads.len() {
+        if place >= HOURS {
             return Err(refusal(Rule::Missing, hour));
         }
-        let load = self.loads[place];
+        let Some(&load) = self.loads.get(place) else {
+            return Err(refusal(Rule::Missing, hour));
+        };
         if !is_load(load) {
             return Err(refusal(Rule::OutOfRange, hour));
         }

@@ -1,5 +1,5 @@
 // Taking groups in.
-ghost use Rattle.std.specs.Prelude.{◌≡◌, [], length, IfOk, OnErr};
+ghost use Rattle.std.specs.Prelude.{◌≡◌, [], IfOk, OnErr};
 ghost use Rattle.model.specs.LoadYears.{year_hours, all_loads, group_year};
 ghost use Rattle.load.specs.Taking.{TakenIn, year_of};
 
@@ -8,10 +8,9 @@ use super::{GROUP_HOURS, GROUPS, LoadGroups};
 use model::{LoadFault, LoadGroup, Rule};
 use std::alloc::{AllocError, Global};
 
-// Each of the six is a load. That they are six is promised too, since it is not known of an array in a struct.
+// Each of the six is a load. The six loads of a record are looped by index: a rule of the project.
 fn all_loads(numbers: &[u32; GROUP_HOURS]) -> bool
-    ensures test { result ≡ all_loads numbers.now }
-    ensures len { length numbers.now ≡ 6 }
+    ensures { result ≡ all_loads numbers.now }
 {
     for i in 0..GROUP_HOURS {
         if !is_load(numbers[i]) {

@@ -2,8 +2,8 @@
 ghost use Rattle.load.specs.Taking.{year_of};
 ghost use Rattle.std.proofs.Common.{rules, arith};
 
+use super::super::LoadYear;
 use super::super::limits::refusal;
-use super::super::{HOURS, LoadYear};
 use super::{GROUP_HOURS, LoadGroups};
 use model::{LoadFault, Rule};
 
@@ -14,12 +14,9 @@ impl LoadYear for LoadGroups {
 
     fn load(&self, hour: u32) -> Result<u32, LoadFault> {
         let at = hour as usize;
-        if at >= HOURS {
+        let Some(Some(loads)) = self.groups.get(at / GROUP_HOURS) else {
             return Err(refusal(Rule::Missing, hour));
-        }
-        match self.groups[at / GROUP_HOURS] {
-            Some(loads) => Ok(loads[at % GROUP_HOURS]),
-            None => Err(refusal(Rule::Missing, hour)),
-        }
+        };
+        Ok(loads[at % GROUP_HOURS])
     }
 }

@@ -1,6 +1,5 @@
-use Rattle.std.proofs.Common.{◌+◌, ◌-◌, ◌^◌, min, get_or, take, count_by, ap, ◌∙◌, arith}
-use Rattle.std.proofs.lemmas.List.{length-take, take_all}
-use Rattle.std.proofs.lemmas.List.Sums.{count_by-le-length, count_by_more_no, count_by_more_yes}
+use Rattle.std.proofs.Common.{◌+◌, ◌-◌, ◌^◌, min, get_or, ap, ◌∙◌, arith}
+use Rattle.std.proofs.lemmas.List.Sums.{count_by_more_no, count_by_more_yes}
 use Rattle.model.specs.LoadYears.{counts}
 use Rattle.load.proofs.Counting.{below_more, never-reached, reached}
 use Rattle.load.proofs.hours.low_cost_hours.Goals as goal
@@ -20,20 +19,9 @@ hour-preserved-then-below-low_cost c =
     let high = reached loads own c.args.low_cost c.loop-load.load-index c.loop-load.below _ c.loop-load-test.true c.loop-load.invariant.0 step c.if-below-low_cost.true in
     omega (arith, c.hour.invariant, count_by_more_no (counts loads c.args.low_cost) loads c.hour.own-index 0 c.hour-test.true high)
 
-pub overflow_add-count : goal.overflow_add-count
-overflow_add-count c =
-    let loads = c.args.loads.now in
-    let front = take c.hour.own-index loads in
-    omega (arith, c.hour.invariant, count_by-le-length (counts loads c.args.low_cost) front, length-take c.hour.own-index loads)
-
 pub hour-preserved : goal.hour-preserved
 hour-preserved c =
     let loads = c.args.loads.now in
     let own = get_or loads c.hour.own-index 0 in
     let low = never-reached loads own c.args.low_cost c.loop-load.load-index c.loop-load.below c.loop-load-test.false c.loop-load.invariant.0 (c.loop-load.invariant.1 (omega arith)) in
     omega (arith, c.hour.invariant, count_by_more_yes (counts loads c.args.low_cost) loads c.hour.own-index 0 c.hour-test.true low)
-
-pub returns : goal.returns
-returns c =
-    let loads = c.args.loads.now in
-    c.hour.invariant ∙ ap (count_by (counts loads c.args.low_cost)) (take_all c.hour.own-index loads c.hour-test.false)

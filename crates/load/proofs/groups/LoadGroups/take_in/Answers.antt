@@ -13,7 +13,7 @@ returns-then-is_some c =
     let t = vec_items c.args.self.now.groups in
     let g = c.args.group in
     let l : g.group < length t = omega arith in
-    let loads = sym c.if-not-all_loads.ensures.test in
+    let loads = sym c.if-not-all_loads.ensures in
     let stands = c.if-is_some.ensures ∙ ap is_some (looked-up t c.from-place.result g.group _ c.from-place.ensures l c.index.ensures) in
     let fault = c.refusal-then-is_some.ensures ∙ ap (λ p. record { fault = new_fault AlreadyStands LoadYear p }) c.from-then-is_some.ensures in
     record {
@@ -30,11 +30,11 @@ invariant_of-self c =
     let t = vec_items b.groups in
     let g = c.args.group in
     let l : g.group < length t = omega arith in
-    let loads = sym c.if-not-all_loads.ensures.test in
+    let loads = sym c.if-not-all_loads.ensures in
     let made = accepted-year year_hours t g l (omega arith) loads (new (goal.at.invariant_of-self c).Else-is_some) in
     record {
       whole = b.whole;
-      ranged = rw c.from-place.ensures (put-ranged year_hours t g l c.if-not-all_loads.ensures.len loads b.ranged);
+      ranged = rw c.from-place.ensures (put-ranged year_hours t g l loads b.ranged);
       reached = rw c.from-place.ensures (reached-more year_hours g _ _ made b.reached);
     }
 
@@ -44,7 +44,7 @@ returns c =
     let t = vec_items b.groups in
     let g = c.args.group in
     let l : g.group < length t = omega arith in
-    let loads = sym c.if-not-all_loads.ensures.test in
+    let loads = sym c.if-not-all_loads.ensures in
     let made = accepted-year year_hours t g l (omega arith) loads (new (goal.at.returns c).Else-is_some) in
     record {
       taken = taken_in g _ _ _ (accepted-answer year_hours t g l (omega arith) loads (new (goal.at.returns c).Else-is_some)) (rw c.from-place.ensures made);
