@@ -28,7 +28,7 @@ fn refusal(rule: Rule) -> CombinedFault
 
 // The reference day, unless the question itself is refused: for its day, its weights, or for standing alone.
 fn question<M: Method>(weights: Weights, reference: u32) -> Result<Day, CombinedFault>
-    ensures { MatchResult result (λ d. (d.number ≡ reference) × (weights.operating + weights.build ≡ 100) × ((later : Option Fault) → asked M.Method.alone weights.operating weights.build reference later ≡ later)) (λ f. ((later : Option Fault) → asked M.Method.alone weights.operating weights.build reference later ≡ Some f.fault)) }
+    ensures { MatchResult result (λ d. (d.number ≡ reference) × (weights.operating + weights.build ≡ 100) × ((later : Option Fault) → asked M.Method.STANDS_ALONE weights.operating weights.build reference later ≡ later)) (λ f. ((later : Option Fault) → asked M.Method.STANDS_ALONE weights.operating weights.build reference later ≡ Some f.fault)) }
 {
     let Some(day) = Day::new(reference) else {
         return Err(refusal(Rule::NoSuchDay));
@@ -36,7 +36,7 @@ fn question<M: Method>(weights: Weights, reference: u32) -> Result<Day, Combined
     if u16::from(weights.operating) + u16::from(weights.build) != 100 {
         return Err(refusal(Rule::WeightsNotHundred));
     }
-    if weights.build == 0 && !M::may_stand_alone() {
+    if weights.build == 0 && !M::STANDS_ALONE {
         return Err(refusal(Rule::CannotStandAlone));
     }
     Ok(day)
@@ -85,7 +85,7 @@ pub fn combined_margin<R: Register, M: Method>(
     weights: Weights,
     reference: u32,
 ) -> Result<CombinedMargin, CombinedFault>
-    ensures { Promise (M.Method.meaning method.now) (M.Method.may method.now) M.Method.halves M.Method.alone weights.operating weights.build reference (R.Register.contents register.old) (R.Register.contents register.new) (R.Register.coming register.new) result }
+    ensures { Promise (M.Method.meaning method.now) (M.Method.may method.now) M.Method.DISTANCE M.Method.STANDS_ALONE weights.operating weights.build reference (R.Register.contents register.old) (R.Register.contents register.new) (R.Register.coming register.new) result }
 {
     register.restart();
     let day = question::<M>(weights, reference)?;

@@ -42,7 +42,7 @@ pub(super) fn carry_out<M: Method>(
     call: Call,
     buffer: &mut [u8],
 ) -> Answer
-    ensures { Step (M.Method.meaning method.now) (M.Method.may method.now) M.Method.halves M.Method.alone call (state book.old buffer.old) (state book.new buffer.new) result }
+    ensures { Step (M.Method.meaning method.now) (M.Method.may method.now) M.Method.DISTANCE M.Method.STANDS_ALONE call (state book.old buffer.old) (state book.new buffer.new) result }
 {
     match call {
         Call::EnterFuel(fuel) => Answer::Entered(book.enter_fuel(fuel)),

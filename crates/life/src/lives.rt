@@ -24,7 +24,7 @@ pub fn live<M: Method>(
     buffer: &mut [u8],
 ) -> Result<Life, AllocError>
     ensures after { IfOk result (λ life. After (map event_of calls.now) life.book) }
-    ensures run { IfOk result (λ life. Run (M.Method.meaning method.now) (M.Method.may method.now) M.Method.halves M.Method.alone calls.now (start buffer.old) life.answers.items (state life.book buffer.new)) }
+    ensures run { IfOk result (λ life. Run (M.Method.meaning method.now) (M.Method.may method.now) M.Method.DISTANCE M.Method.STANDS_ALONE calls.now (start buffer.old) life.answers.items (state life.book buffer.new)) }
     ensures kept { OnErr result (buffer.new ≡ buffer.old) }
 {
     let mut answers = Vec::with_capacity(heap, calls.len())?;

@@ -17,11 +17,6 @@ use load::{HOURS, LoadYear, low_cost_hours, read_year, total_load};
 use model::{MethodFault, Ratio, Rule};
 use register::Register;
 
-// A proof does not see a constant of a generic impl, so that the impl's functions go by these.
-const HALF_GRAMS: u32 = 3;
-
-const MAY_STAND_ALONE: bool = false;
-
 // Over a load year of any kind.
 #[derive(Drop)]
 pub struct Adjusted<L> {
@@ -72,31 +67,23 @@ fn mixture(low_cost_hours: usize, other: u32, low_cost: u32) -> u32
 }
 
 impl<L: LoadYear> Method for Adjusted<L> {
-    const DISTANCE: u32 = HALF_GRAMS;
+    const DISTANCE: u32 = 3;
 
-    const STANDS_ALONE: bool = MAY_STAND_ALONE;
+    ghost DISTANCE = { 3 };
+
+    const STANDS_ALONE: bool = false;
+
+    ghost STANDS_ALONE = { false };
 
     ghost meaning = { λ m us. adjusted_meaning year_hours (L.LoadYear.year m.year) us };
 
     ghost may = { λ m us a. a ≡ adjusted_answer year_hours (L.LoadYear.year m.year) us };
-
-    ghost halves = { 3 };
-
-    ghost alone = { false };
 
     ghost fair = { λ m us ss h falls few e. adjusted-fair year_hours (omega arith) (L.LoadYear.year m.year) us ss h e };
 
     ghost near = { λ m us ss a h falls few e is. adjusted-near year_hours (omega arith) (L.LoadYear.year m.year) us ss h e a is };
 
     ghost close = { Prim.search rules };
-
-    fn half_grams() -> u32 {
-        HALF_GRAMS
-    }
-
-    fn may_stand_alone() -> bool {
-        MAY_STAND_ALONE
-    }
 
     fn operating_margin<R: Register>(&self, register: &mut R) -> Result<u32, MethodFault> {
         let (low_cost, other) = group_sums(register)?;

@@ -14,29 +14,21 @@ pub struct Average {}
 impl Method for Average {
     const DISTANCE: u32 = 2;
 
+    ghost DISTANCE = { 2 };
+
     const STANDS_ALONE: bool = true;
+
+    ghost STANDS_ALONE = { true };
 
     ghost meaning = { λ m us. average_meaning us };
 
     ghost may = { λ m us a. a ≡ average_answer us };
-
-    ghost halves = { 2 };
-
-    ghost alone = { true };
 
     ghost fair = { λ m us ss h falls few e. average-fair us ss e };
 
     ghost near = { λ m us ss a h falls few e is. average-near us ss e a h is };
 
     ghost close = { Prim.search rules };
-
-    fn half_grams() -> u32 {
-        Self::DISTANCE
-    }
-
-    fn may_stand_alone() -> bool {
-        Self::STANDS_ALONE
-    }
 
     fn operating_margin<R: Register>(&self, register: &mut R) -> Result<u32, MethodFault> {
         let (low_cost, other) = group_sums(register)?;

@@ -15,25 +15,18 @@ pub trait Method {
     // How far an answer may lie from the exact margin, in half grams per MWh.
     const DISTANCE: u32;
 
+    ghost DISTANCE: { ℕ };
+
     // Whether the method may be asked with no build margin beside it.
     const STANDS_ALONE: bool;
+
+    ghost STANDS_ALONE: { Bool };
 
     // What a list means to the method: refused, or a share for each unit.
     ghost meaning: { Self → List Listed → Verdict };
 
     // The figures that it may answer for a list with shares.
     ghost may: { Self → List Listed → ℕ → Type 0 };
-
-    // The two constants, as clauses cite them.
-    ghost halves: { ℕ };
-
-    ghost alone: { Bool };
-
-    fn half_grams() -> u32
-        ensures { result ≡ halves };
-
-    fn may_stand_alone() -> bool
-        ensures { result ≡ alone };
 
     // Refuses exactly as the meaning says; over a list that ends in a fault or has more than 4,000 units, with that fault.
     fn operating_margin<R: Register>(&self, register: &mut R) -> Result<u32, MethodFault>
@@ -43,9 +36,9 @@ pub trait Method {
 
     ghost fair: { (m : Self) (us : List Listed) (ss : List Frac) → Ranged us → Falling us → length us ≤ limit → meaning m us ≡ shares ss → Fair ss us };
 
-    ghost near: { (m : Self) (us : List Listed) (ss : List Frac) (a : ℕ) → Ranged us → Falling us → length us ≤ limit → meaning m us ≡ shares ss → may m us a → Within (ratio halves 2) a (exact ss us) };
+    ghost near: { (m : Self) (us : List Listed) (ss : List Frac) (a : ℕ) → Ranged us → Falling us → length us ≤ limit → meaning m us ≡ shares ss → may m us a → Within (ratio DISTANCE 2) a (exact ss us) };
 
-    ghost close: { halves ≤ 1000 };
+    ghost close: { DISTANCE ≤ 1000 };
 }
 
 mod groups;

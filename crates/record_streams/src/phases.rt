@@ -33,7 +33,7 @@ fn refusal(rule: Rule, layer: Layer, place: u32) -> IntakeFault
 }
 
 fn ask<M: Method>(method: &M, book: &mut Book, question: Question) -> Result<Reply, IntakeFault>
-    ensures { AsksBy (M.Method.meaning method.now) (M.Method.may method.now) M.Method.halves M.Method.alone question book.old book.new result }
+    ensures { AsksBy (M.Method.meaning method.now) (M.Method.may method.now) M.Method.DISTANCE M.Method.STANDS_ALONE question book.old book.new result }
 {
     let weights = Weights {
         operating: question.operating_weight,

@@ -16,7 +16,7 @@ returns-in_err-day g c =
     let w = c.args.weights in
     let alive = g.met.R.Register.alive c.args.register.now in
     rw p.1
-    (by-question (g.M.Method.meaning m) (g.M.Method.may m) g.M.Method.halves g.M.Method.alone w.operating w.build c.args.reference _ _ _ alive
+    (by-question (g.M.Method.meaning m) (g.M.Method.may m) g.M.Method.DISTANCE g.M.Method.STANDS_ALONE w.operating w.build c.args.reference _ _ _ alive
     c.restart.ensures.contents c.restart.ensures.coming
     p.0 (λ later. c.in_err-day.ensures later ∙ ap (λ (f : CombinedFault). Some f.fault) (sym p.2)))
 
@@ -29,7 +29,7 @@ returns-in_err-walk g c =
     let a = c.restart.ensures.contents in
     let e = c.in_err-walk.ensures in
     rw p.1
-    (by-walk (g.M.Method.meaning m) (g.M.Method.may m) g.M.Method.halves g.M.Method.alone w.operating w.build c.args.reference _ _ _ alive
+    (by-walk (g.M.Method.meaning m) (g.M.Method.may m) g.M.Method.DISTANCE g.M.Method.STANDS_ALONE w.operating w.build c.args.reference _ _ _ alive
     (e.contents ∙ a) (restart-moved a e.restarted)
     c.in_ok-day.ensures.2
     c.in_err-walk.field-0.0 p.0 p.2 (walk-moved a e.answer))
@@ -45,7 +45,7 @@ returns-in_err-operating g c =
     let e = c.in_err-operating.ensures in
     let b = v.contents ∙ a in
     rw p.1
-    (by-method (g.M.Method.meaning m) (g.M.Method.may m) g.M.Method.halves g.M.Method.alone w.operating w.build c.args.reference _ _ _ alive
+    (by-method (g.M.Method.meaning m) (g.M.Method.may m) g.M.Method.DISTANCE g.M.Method.STANDS_ALONE w.operating w.build c.args.reference _ _ _ alive
     (e.contents ∙ b) (restart-moved b e.restarted)
     c.in_ok-day.ensures.2
     (walked _ _ (walk-moved a v.answer))
@@ -65,7 +65,7 @@ returns-in_err-build g c =
     let d = o.contents ∙ b in
     let q = c.in_ok-day.ensures in
     rw p.1
-    (by-build (g.M.Method.meaning m) (g.M.Method.may m) g.M.Method.halves g.M.Method.alone w.operating w.build c.args.reference _ _ _ alive
+    (by-build (g.M.Method.meaning m) (g.M.Method.may m) g.M.Method.DISTANCE g.M.Method.STANDS_ALONE w.operating w.build c.args.reference _ _ _ alive
     (e.contents ∙ d) (restart-moved d (e.restarted (restart-moved (sym o.contents) o.restarted)))
     q.2
     (walked _ _ (walk-moved a v.answer))
@@ -89,7 +89,7 @@ returns g c =
     let q = c.in_ok-day.ensures in
     let list = listed (g.R.Register.contents register) in
     let all = walked list _ (walk-moved a v.answer) in
-    answered-whole (g.M.Method.meaning m) (g.M.Method.may m) g.M.Method.halves g.M.Method.alone w.operating w.build c.args.reference _ _ _ alive
+    answered-whole (g.M.Method.meaning m) (g.M.Method.may m) g.M.Method.DISTANCE g.M.Method.STANDS_ALONE w.operating w.build c.args.reference _ _ _ alive
     (e.contents ∙ d) (restart-moved d (e.restarted (restart-moved (sym o.contents) o.restarted)))
     q.2 all
     c.in_ok-operating.operating (meets-moved b (g.M.Method.meaning m) (g.M.Method.may m) _ o.answer)

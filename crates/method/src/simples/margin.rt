@@ -16,29 +16,21 @@ use register::Register;
 impl Method for Simple {
     const DISTANCE: u32 = 2;
 
+    ghost DISTANCE = { 2 };
+
     const STANDS_ALONE: bool = false;
+
+    ghost STANDS_ALONE = { false };
 
     ghost meaning = { λ m us. simple_meaning (pairs_of m) us };
 
     ghost may = { λ m us a. a ≡ simple_answer us };
-
-    ghost halves = { 2 };
-
-    ghost alone = { false };
 
     ghost fair = { λ m us ss h falls few e. simple-fair (pairs_of m) us ss e };
 
     ghost near = { λ m us ss a h falls few e is. simple-near (pairs_of m) us ss e a h is };
 
     ghost close = { first_of (Prim.search rules, Prim.grind (arith, Self.row.coded.inj)) };
-
-    fn half_grams() -> u32 {
-        Self::DISTANCE
-    }
-
-    fn may_stand_alone() -> bool {
-        Self::STANDS_ALONE
-    }
 
     fn operating_margin<R: Register>(&self, register: &mut R) -> Result<u32, MethodFault> {
         let (_, other) = group_sums(register)?;

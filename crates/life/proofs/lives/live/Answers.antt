@@ -14,9 +14,9 @@ pub returns : goal.returns
 returns g c =
     let m = g.M.Method in
     let method = c.args.method.now in
-    let ran = run-all (m.meaning method) (m.may method) m.halves m.alone c.args.calls.now c.loop-call.call-index (start c.args.buffer.now) _ (state c.loop-call.book c.loop-call.buffer) c.loop-call-test.false c.loop-call.invariant.0 in
+    let ran = run-all (m.meaning method) (m.may method) m.DISTANCE m.STANDS_ALONE c.args.calls.now c.loop-call.call-index (start c.args.buffer.now) _ (state c.loop-call.book c.loop-call.buffer) c.loop-call-test.false c.loop-call.invariant.0 in
     record {
-      after = run-lives (m.meaning method) (m.may method) m.halves m.alone c.args.calls.now (start c.args.buffer.now) _ (state c.loop-call.book c.loop-call.buffer) ran _ shows-none;
+      after = run-lives (m.meaning method) (m.may method) m.DISTANCE m.STANDS_ALONE c.args.calls.now (start c.args.buffer.now) _ (state c.loop-call.book c.loop-call.buffer) ran _ shows-none;
       run = ran;
       kept = tt;
     }

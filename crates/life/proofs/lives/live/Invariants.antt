@@ -5,6 +5,6 @@ use Rattle.life.proofs.lives.live.Given as goal
 abbrev pub invariant-loop-call : goal.invariant-loop-call
 invariant-loop-call g l =
     let m = g.M.Method in
-    Run (m.meaning l.method) (m.may l.method) m.halves m.alone (take l.call-index l.calls) (start l.initial.buffer) (vec_items l.answers) (state l.book l.buffer)
+    Run (m.meaning l.method) (m.may l.method) m.DISTANCE m.STANDS_ALONE (take l.call-index l.calls) (start l.initial.buffer) (vec_items l.answers) (state l.book l.buffer)
     × (vec_len l.answers ≡ l.call-index)
     × (length l.calls ≤ vec_capacity l.answers)
