@@ -1,10 +1,11 @@
--- The table of yearly pairs: what a pair that stands has passed, and why the table never overflows.
-use Rattle.std.proofs.Common.{◌≡◌, ℕ, zero, suc, ◌+◌, ◌<◌, ◌≤◌, Bool, true, false, cond, not, ◌&&◌, eqb, leb, List, [], ◌∷◌, length, get_or, take, set, Some, None, Ok, Err, count_by, Option, refl, inl, inr, arith}
-use Rattle.std.specs.List.{AllByRecursion}
-use Rattle.std.proofs.ByRecursion.{All-from_get_or, All-get_or, All-take}
-use Rattle.std.proofs.lemmas.List.{get_or-set_other, get_or-set_same, length-take, take_more_set}
-use Rattle.std.proofs.lemmas.List.Sums.{sum_by_push}
-use Rattle.std.proofs.lemmas.Bool.{and_parts, cases_Bool, cases_eq, eqb-true, leb-true, ltb-false, not-false}
+-- The yearly pairs: what a pair that stands has passed, and why there is always room.
+use Rattle.std.proofs.Common.{◌≡◌, ℕ, zero, suc, ◌+◌, ◌<◌, ◌≤◌, Bool, true, false, cond, not, ◌&&◌, eqb, leb, List, [], ◌∷◌, ◌++◌, length, get_or, Some, None, Ok, Err, sum_by, count_by, Option, refl, inl, inr, arith}
+use Rattle.std.specs.List.{AllPass, list_any}
+use Rattle.std.proofs.lemmas.List.{length_push}
+use Rattle.std.proofs.lemmas.List.Elements.{All-head, All-tail}
+use Rattle.std.proofs.lemmas.Grind.{elements}
+use Rattle.std.proofs.lemmas.List.Sums.{sum_by-le, sum_by_push}
+use Rattle.std.proofs.lemmas.Bool.{and_parts, cases_Bool, eqb-true, leb-true, ltb-false, not-false}
 use Rattle.std.proofs.lemmas.Bool.Decides.{nat_tests}
 use Rattle.model.specs.declared.faults.Fault.{Fault}
 use Rattle.model.specs.declared.faults.MethodFault.{MethodFault}
@@ -15,7 +16,6 @@ use Rattle.model.specs.Methods.{closed, method_fault}
 use Rattle.model.specs.Operating.{is_year, pair_answer, pair_fault, pair_in_range, pairs_after, years_fault}
 use Rattle.model.specs.Plain.{any}
 use Rattle.model.proofs.Firsts.{count-cons}
-use Rattle.method.specs.Years.{no_pair}
 
 pub record Ranged (p : YearlyPair) : Type 0 where
   pub year : p.year ≤ 4
@@ -28,8 +28,10 @@ in-range p e =
     let j = and_parts (leb p.all 4000000) (leb p.low_cost p.all) k.1 in
     record { year = leb-true p.year 4 k.0; all = leb-true p.all 4000000 j.0; lower = leb-true p.low_cost p.all j.1 }
 
-pub range_at : (ps : List YearlyPair) (i : ℕ) → i < length ps → AllByRecursion (λ p. pair_in_range p ≡ true) ps → Ranged (get_or ps i no_pair)
-range_at ps i l h = in-range (get_or ps i no_pair) (All-get_or (λ p. pair_in_range p ≡ true) ps i no_pair l h)
+-- whether some element passes, by a search and by a count
+pub any_is : {A : Type 0} (p : A → Bool) (xs : List A) → list_any p xs ≡ any p xs
+any_is p [] = refl
+any_is p (x ∷ xs) = grind (arith, nat_tests, any_is p xs, count-cons p x xs)
 
 -- ---- a pair that is not refused
 
@@ -63,59 +65,48 @@ pairs-stay ps p y h = rw (refused-by (pair_fault ps p) y tt h) refl
 
 -- ---- five years, no two pairs of one year
 
+abbrev pub Apart : List YearlyPair → Type 0
+Apart ps = (y : ℕ) → count_by (is_year y) ps ≤ 1
+
 abbrev years : List YearlyPair → ℕ
 years ps = count_by (is_year 0) ps + count_by (is_year 1) ps + count_by (is_year 2) ps + count_by (is_year 3) ps + count_by (is_year 4) ps
 
 one-year : (y : ℕ) → y ≤ 4 → cond (eqb y 0) 1 0 + cond (eqb y 1) 1 0 + cond (eqb y 2) 1 0 + cond (eqb y 3) 1 0 + cond (eqb y 4) 1 0 ≡ 1
 one-year y l = grind (arith, nat_tests)
 
-all-years : (ps : List YearlyPair) → AllByRecursion (λ p. p.year ≤ 4) ps → length ps ≡ years ps
+all-years : (ps : List YearlyPair) → AllPass pair_in_range ps → length ps ≡ years ps
 all-years [] h = refl
 all-years (p ∷ ps) h =
-    omega (arith, all-years ps h.1, one-year p.year h.0, count-cons (is_year 0) p ps, count-cons (is_year 1) p ps, count-cons (is_year 2) p ps, count-cons (is_year 3) p ps, count-cons (is_year 4) p ps)
+    omega (arith, all-years ps (All-tail (λ q. pair_in_range q ≡ true) p ps h), one-year p.year (in-range p (All-head (λ q. pair_in_range q ≡ true) p ps h)).year, count-cons (is_year 0) p ps, count-cons (is_year 1) p ps, count-cons (is_year 2) p ps, count-cons (is_year 3) p ps, count-cons (is_year 4) p ps)
 
-module _ (ps : List YearlyPair) (h : AllByRecursion (λ p. p.year ≤ 4) ps) (apart : (y : ℕ) → count_by (is_year y) ps ≤ 1) where
-  room : (y : ℕ) → y ≤ 4 → count_by (is_year y) ps ≡ 0 → length ps < 5
-  room y l none =
-      let all = all-years ps h in
-      elim (cases_eq y 0) [
-        | inl e ↦ let z = rw e at none in omega (arith, z, apart 1, apart 2, apart 3, apart 4)
-        | inr n0 ↦ elim (cases_eq y 1) [
-          | inl e ↦ let z = rw e at none in omega (arith, z, apart 0, apart 2, apart 3, apart 4)
-          | inr n1 ↦ elim (cases_eq y 2) [
-            | inl e ↦ let z = rw e at none in omega (arith, z, apart 0, apart 1, apart 3, apart 4)
-            | inr n2 ↦ elim (cases_eq y 3) [
-              | inl e ↦ let z = rw e at none in omega (arith, z, apart 0, apart 1, apart 2, apart 4)
-              | inr n3 ↦ let e : y ≡ 4 = omega (arith, n0, n1, n2, n3) in let z = rw e at none in omega (arith, z, apart 0, apart 1, apart 2, apart 3)
-            ]
-          ]
-        ]
+-- Five pairs at most stand.
+few : (ps : List YearlyPair) → AllPass pair_in_range ps → Apart ps → length ps ≤ 5
+few ps ranged apart = omega (arith, all-years ps ranged, apart 0, apart 1, apart 2, apart 3, apart 4)
+
+pub sums-few : (ps : List YearlyPair) → AllPass pair_in_range ps → Apart ps → (sum_by (λ p. p.low_cost) ps ≤ 20000000) × (sum_by (λ p. p.all) ps ≤ 20000000)
+sums-few ps ranged apart =
+    let l = few ps ranged apart in
+    let all = sum_by-le (λ (p : YearlyPair). p.all) 4000000 ps (λ k d i. (in-range (get_or ps k d) (ranged k d i)).all) in
+    let low = sum_by-le (λ (p : YearlyPair). p.low_cost) 4000000 ps (λ k d i. let r = in-range (get_or ps k d) (ranged k d i) in omega (arith, r.all, r.lower)) in
+    (omega arith, omega arith)
+
+-- ---- with one pair more
+
+module _ (ps : List YearlyPair) (p : YearlyPair) (h : Passed ps p) (ranged : AllPass pair_in_range ps) (apart : Apart ps) where
+  pub ranged-more : AllPass pair_in_range (ps ++ p ∷ [])
+  ranged-more = grind (arith, elements, h.ranged)
+
+  pub apart_more : Apart (ps ++ p ∷ [])
+  apart_more y =
+      let s = sum_by_push (λ q. cond (is_year y q) 1 0) ps p in
+      elim (cases_Bool (is_year y p)) [
+        | inl e ↦ let z = rw (eqb-true p.year y e) at h.apart in grind (arith, s, e, z)
+        | inr e ↦ grind (arith, s, e, apart y)
       ]
 
--- a pair that is not refused finds a free place
-pub table-room : (ps : List YearlyPair) (n : ℕ) (p : YearlyPair) → length ps ≡ 5 → n ≤ 5 → ((k : ℕ) → pair_in_range (get_or ps k no_pair) ≡ true) → ((y : ℕ) → count_by (is_year y) (take n ps) ≤ 1) → Passed (take n ps) p → n < 5
-table-room ps n p five few ranged apart h =
-    let years : AllByRecursion (λ (q : YearlyPair). q.year ≤ 4) (take n ps) = All-take (λ (q : YearlyPair). q.year ≤ 4) n ps (All-from_get_or (λ (q : YearlyPair). q.year ≤ 4) ps no_pair (λ k _. (in-range (get_or ps k no_pair) (ranged k)).year)) in
-    omega (arith, room (take n ps) years apart p.year (in-range p h.ranged).year h.apart, length-take n ps)
-
--- ---- the table with one pair more
-
-module _ (ps : List YearlyPair) (n : ℕ) (p : YearlyPair) (l : n < length ps) where
-  pub ranged-more : pair_in_range p ≡ true → ((k : ℕ) → pair_in_range (get_or ps k no_pair) ≡ true) → (k : ℕ) → pair_in_range (get_or (set ps n p) k no_pair) ≡ true
-  ranged-more here others k =
-      elim (cases_eq k n) [
-        | inl e ↦ rw (e, get_or-set_same ps n p no_pair l) here
-        | inr e ↦ rw (get_or-set_other ps n k p no_pair e) (others k)
-      ]
-
-  pub apart_more : count_by (is_year p.year) (take n ps) ≡ 0 → ((y : ℕ) → count_by (is_year y) (take n ps) ≤ 1) → (y : ℕ) → count_by (is_year y) (take (n + 1) (set ps n p)) ≤ 1
-  apart_more none others y =
-      let s = sum_by_push (λ q. cond (is_year y q) 1 0) (take n ps) p in
-      rw (take_more_set ps n p l)
-      (elim (cases_Bool (is_year y p)) [
-        | inl e ↦ let z = rw (eqb-true p.year y e) at none in grind (arith, s, e, z)
-        | inr e ↦ grind (arith, s, e, others y)
-      ])
+  -- one that is not refused finds a free place
+  pub room : length ps < 5
+  room = omega (arith, few (ps ++ p ∷ []) ranged-more apart_more, length_push ps p)
 
 -- ---- what refuses the method by its pairs
 

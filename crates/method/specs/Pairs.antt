@@ -1,14 +1,14 @@
 -- The yearly pairs that stand in the simple method.
-use Rattle.std.specs.Prelude.{ℕ, List, take, sum_by, Result}
+use Rattle.std.specs.Prelude.{ℕ, List, sum_by, Result}
 use Rattle.model.specs.declared.faults.MethodFault.{MethodFault}
 use Rattle.model.specs.declared.records.YearlyPair.{YearlyPair}
 use Rattle.model.specs.Faults.{unless_refused}
 use Rattle.model.specs.Operating.{years_fault}
 use Rattle.method.specs.declared.simples.Simple.{Simple}
 
--- The pairs in order of entry; the free places of the table are left out.
+-- The pairs in order of entry.
 abbrev pub pairs_of : Simple → List YearlyPair
-pairs_of m = take m.count m.pairs
+pairs_of m = m.pairs.items
 
 -- Low-cost generation and all generation over the years.
 abbrev pub yearly_sums : List YearlyPair → ℕ × ℕ

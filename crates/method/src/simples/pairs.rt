@@ -1,12 +1,12 @@
 // The yearly pairs: how they are entered, and what they say of the method.
-ghost use Rattle.std.specs.Prelude.{◌≡◌, ◌≤◌, true, [], length, OnErr};
-ghost use Rattle.std.specs.List.{AllByRecursion};
+ghost use Rattle.std.specs.Prelude.{◌≡◌, ◌≤◌, [], OnErr};
 ghost use Rattle.model.specs.Operating.{is_year, pair_answer, pair_in_range, pairs_after};
 ghost use Rattle.model.specs.Plain.{any};
 ghost use Rattle.method.specs.Pairs.{pairs_of, yearly_sums, years_answer};
 
 use super::super::refusals::refusal;
 use super::{Simple, YEARS};
+use arrayvec::ArrayVec;
 use model::{MethodFault, Rule, YearlyPair};
 
 // The highest number of a year.
@@ -14,13 +14,6 @@ const LAST_YEAR: u8 = 4;
 
 // The most generation of a year, in GWh.
 const MOST: u32 = 4_000_000;
-
-// What stands in a free place of the table.
-const NO_PAIR: YearlyPair = YearlyPair {
-    year: 0,
-    low_cost: 0,
-    all: 0,
-};
 
 fn in_range(pair: &YearlyPair) -> bool
     ensures { result ≡ pair_in_range pair.now }
@@ -33,30 +26,15 @@ impl Simple {
         ensures { pairs_of result ≡ [] }
     {
         Simple {
-            pairs: [NO_PAIR; YEARS],
-            count: 0,
+            pairs: ArrayVec::new(),
         }
-    }
-
-    // The pairs in order of entry.
-    fn pairs(&self) -> &[YearlyPair]
-        ensures value { result.now ≡ pairs_of self.now }
-        ensures few { length result.now ≤ 5 }
-        ensures ranged { AllByRecursion (λ p. pair_in_range p ≡ true) result.now }
-    {
-        &self.pairs[0..self.count]
     }
 
     // A pair of the year stands.
     fn has_year(&self, year: u8) -> bool
         ensures { result ≡ any (is_year year) (pairs_of self.now) }
     {
-        for pair in self.pairs() {
-            if pair.year == year {
-                return true;
-            }
-        }
-        false
+        self.pairs.iter().any(|pair| pair.year == year)
     }
 
     fn check(&self, pair: &YearlyPair) -> Result<(), MethodFault>
@@ -78,19 +56,18 @@ impl Simple {
         ensures refusal { OnErr result (self.new ≡ self.old) }
     {
         self.check(&pair)?;
-        self.pairs[self.count] = pair;
-        self.count += 1;
+        self.pairs.push(pair);
         Ok(())
     }
 
-    // Low-cost generation and all generation over the years, in GWh.
+    // Low-cost generation and all generation over the years, in GWh. (One loop over both columns: a rule of the project.)
     fn sums(&self) -> (u64, u64)
         ensures value { result ≡ yearly_sums (pairs_of self.now) }
         ensures bound { result.0 ≤ 20000000 }
     {
         let mut low_cost: u64 = 0;
         let mut all: u64 = 0;
-        for pair in self.pairs() {
+        for pair in self.pairs.iter() {
             low_cost += u64::from(pair.low_cost);
             all += u64::from(pair.all);
         }
@@ -101,10 +78,8 @@ impl Simple {
     pub(super) fn check_years(&self) -> Result<(), MethodFault>
         ensures { result ≡ years_answer (pairs_of self.now) }
     {
-        for year in 0..=LAST_YEAR {
-            if !self.has_year(year) {
-                return Err(refusal(Rule::Missing, u32::from(year)));
-            }
+        if let Some(year) = (0..YEARS as u8).find(|year| !self.has_year(*year)) {
+            return Err(refusal(Rule::Missing, u32::from(year)));
         }
         let (low_cost, all) = self.sums();
         if 2 * low_cost >= all {

@@ -1,20 +1,13 @@
-use Rattle.std.proofs.Common.{ap, ◌∙◌}
-use Rattle.std.proofs.lemmas.Bool.{eq-eqb, ne_eqb}
+use Rattle.std.proofs.Common.{◌∙◌, rules, tests}
+use Rattle.std.proofs.lemmas.Iterator.{YieldsList-from_slice}
+use Rattle.std.proofs.lemmas.Iterator.Search.{any_from_yields_List}
 use Rattle.model.specs.Operating.{is_year}
-use Rattle.model.specs.Plain.{any}
-use Rattle.model.proofs.Firsts.{search-found, search-more, search-none}
-use Rattle.method.specs.Years.{no_pair}
+use Rattle.method.specs.Pairs.{pairs_of}
+use Rattle.method.proofs.Tallies.{any_is}
 use Rattle.method.proofs.simples.Simple.has_year.Goals as goal
-
-pub loop-pair-preserved : goal.loop-pair-preserved
-loop-pair-preserved c = search-more (is_year c.args.year) c.pairs-pair-items.result.now c.loop-pair.pair-index no_pair c.loop-pair-test.true (ne_eqb _ _ c.if-pair-year.false) c.loop-pair.invariant
-
-pub returns-then-pair-year : goal.returns-then-pair-year
-returns-then-pair-year c =
-    search-found (is_year c.args.year) c.pairs-pair-items.result.now c.loop-pair.pair-index no_pair c.loop-pair-test.true (eq-eqb _ _ c.if-pair-year.true)
-    ∙ ap (any (is_year c.args.year)) c.pairs-pair-items.ensures.value
 
 pub returns : goal.returns
 returns c =
-    search-none (is_year c.args.year) c.pairs-pair-items.result.now c.loop-pair.pair-index c.loop-pair-test.false c.loop-pair.invariant
-    ∙ ap (any (is_year c.args.year)) c.pairs-pair-items.ensures.value
+    let ps = pairs_of c.args.self.now in
+    any_from_yields_List (is_year c.args.year) _ _ _ c.any.ensures.ran (YieldsList-from_slice ps cc) (λ x b q k. search (rules, tests))
+    ∙ any_is (is_year c.args.year) ps
