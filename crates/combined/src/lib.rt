@@ -1,20 +1,17 @@
 // The combined margin: operating and build margin of a register's list, weighted.
 #![tactic(auto)]
 
-ghost use Rattle.std.specs.Prelude.{◌≡◌, ℕ, ◌+◌, ◌*◌, ◌≤◌, Some, Option, MatchResult};
-ghost use Rattle.model.specs.Fraction.{ratio};
+ghost use Rattle.std.specs.Prelude.{◌≡◌, ◌+◌, Some, Option, MatchResult};
 ghost use Rattle.model.specs.Course.{told_course};
 ghost use Rattle.model.specs.History.{listed};
 ghost use Rattle.model.specs.Promise.{Promise, asked};
-ghost use Rattle.model.specs.Rounding.{rounded};
 ghost use Rattle.model.specs.declared.faults.Fault.{Fault};
 ghost use Rattle.combined.specs.Builds.{built_for};
 
 use build::build_margin;
-use method::Method;
+use method::{Method, weighted_mean};
 use model::{
-    BuildMargin, Cohort, CohortSet, CombinedFault, CombinedMargin, Day, Fault, Layer, Ratio, Rule,
-    Weights,
+    BuildMargin, Cohort, CohortSet, CombinedFault, CombinedMargin, Day, Fault, Layer, Rule, Weights,
 };
 use register::{Passing, Register, walk};
 
@@ -64,19 +61,6 @@ fn weighted_build<R: Register>(
     Ok(build_margin(register, reference)?)
 }
 
-// Rounded once.
-fn mixture(weights: Weights, operating: u32, build: u32) -> u32
-    requires { weights.operating + weights.build ≡ 100 }
-    ensures { result ≡ rounded (ratio (weights.operating * operating + weights.build * build) 100) }
-{
-    let hundredths = u64::from(weights.operating) * u64::from(operating)
-        + u64::from(weights.build) * u64::from(build);
-    match Ratio::new(hundredths, 100) {
-        Some(ratio) => ratio.rounded() as u32,
-        None => unreachable(),
-    }
-}
-
 // The margins and the cohort of the register's list by a method, on a reference day. Refused with the first fault: of the
 // question, of the walk, of the method, of the cohort. The register is left restarted, refused or not.
 pub fn combined_margin<R: Register, M: Method>(
@@ -92,7 +76,11 @@ pub fn combined_margin<R: Register, M: Method>(
     let _ = walk(register, Layer::Combined, &mut Passing {})?;
     let operating = method.operating_margin(register)?;
     let build = weighted_build(weights, register, day)?;
-    let combined = mixture(weights, operating, build.margin);
+    let combined = weighted_mean(
+        (u16::from(weights.operating), operating),
+        (u16::from(weights.build), build.margin),
+    )
+    .unwrap();
     Ok(CombinedMargin {
         combined,
         operating,

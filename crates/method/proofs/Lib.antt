@@ -3,4 +3,3 @@ pub mod Verdicts
 pub mod Tallies
 pub mod Meeting
 pub mod Weighing
-pub mod Averaging

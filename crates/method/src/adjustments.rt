@@ -1,20 +1,18 @@
 // The simple adjusted method: in the low-cost hours of a load year the low-cost units are at the margin, and in its other hours
 // the rest.
 ghost use Rattle.std.specs.Borrow.{follows, sem};
-ghost use Rattle.std.specs.Prelude.{◌≡◌, ◌+◌, ◌-◌, ◌*◌, ◌≤◌, false};
-ghost use Rattle.model.specs.Fraction.{ratio};
+ghost use Rattle.std.specs.Prelude.{◌≡◌, false};
 ghost use Rattle.model.specs.LoadYears.{year_hours};
 ghost use Rattle.model.specs.Operating.{adjusted_answer, adjusted_meaning};
-ghost use Rattle.model.specs.Rounding.{rounded};
 ghost use Rattle.method.specs.contracts.adjustments.Adjusted.{the_row};
 ghost use Rattle.std.proofs.Common.{arith, rules};
 ghost use Rattle.method.specs.Adjusting.{adjusted-fair, adjusted-near};
 
 use super::groups::mean;
 use super::refusals::refusal;
-use super::{Method, group_sums};
+use super::{Method, group_sums, weighted_mean};
 use load::{HOURS, LoadYear, low_cost_hours, read_year, total_load};
-use model::{MethodFault, Ratio, Rule};
+use model::{MethodFault, Rule};
 use register::Register;
 
 // Over a load year of any kind.
@@ -51,21 +49,6 @@ impl<L> Adjusted<L> {
     }
 }
 
-// The means of the other units and of the low-cost ones, by the hours that each are at the margin. Rounded once.
-fn mixture(low_cost_hours: usize, other: u32, low_cost: u32) -> u32
-    requires hours { low_cost_hours ≤ year_hours }
-    requires other { other ≤ 10000000 }
-    requires low_cost { low_cost ≤ 10000000 }
-    ensures { result ≡ rounded (ratio ((year_hours - low_cost_hours) * other + low_cost_hours * low_cost) year_hours) }
-{
-    let sum = (HOURS - low_cost_hours) as u64 * u64::from(other)
-        + low_cost_hours as u64 * u64::from(low_cost);
-    match Ratio::new(sum, HOURS as u64) {
-        Some(ratio) => ratio.rounded() as u32,
-        None => unreachable(),
-    }
-}
-
 impl<L: LoadYear> Method for Adjusted<L> {
     const DISTANCE: u32 = 3;
 
@@ -91,10 +74,10 @@ impl<L: LoadYear> Method for Adjusted<L> {
         if low_cost.1 > total_load(&loads) {
             return Err(refusal(Rule::LowCostAboveLoad, 0));
         }
-        let Some(others_mean) = mean(other) else {
-            return Err(refusal(Rule::NoShare, 0));
-        };
-        let hours = low_cost_hours(&loads, low_cost.1);
-        Ok(mixture(hours, others_mean, mean(low_cost).unwrap_or(0)))
+        let others_mean = mean(other).ok_or(refusal(Rule::NoShare, 0))?;
+        let low_cost_mean = mean(low_cost).unwrap_or(0);
+        let low_cost_hours = low_cost_hours(&loads, low_cost.1) as u16;
+        let other_hours = HOURS as u16 - low_cost_hours;
+        Ok(weighted_mean((other_hours, others_mean), (low_cost_hours, low_cost_mean)).unwrap())
     }
 }

@@ -4,8 +4,10 @@ ghost use Rattle.model.specs.Methods.{average_answer, average_meaning};
 ghost use Rattle.method.specs.Means.{average-fair, average-near};
 ghost use Rattle.std.proofs.Common.{rules};
 
+use super::groups::mean;
+use super::refusals::refusal;
 use super::{Method, group_sums};
-use model::{Fault, Layer, MethodFault, Ratio, Rule};
+use model::{MethodFault, Rule};
 use register::Register;
 
 #[derive(Clone, Copy)]
@@ -32,11 +34,7 @@ impl Method for Average {
 
     fn operating_margin<R: Register>(&self, register: &mut R) -> Result<u32, MethodFault> {
         let (low_cost, other) = group_sums(register)?;
-        let Some(mean) = Ratio::new(low_cost.0 + other.0, low_cost.1 + other.1) else {
-            return Err(MethodFault {
-                fault: Fault::new(Rule::NoShare, Layer::Method, 0),
-            });
-        };
-        Ok(mean.rounded() as u32)
+        let all = (low_cost.0 + other.0, low_cost.1 + other.1);
+        mean(all).ok_or(refusal(Rule::NoShare, 0))
     }
 }

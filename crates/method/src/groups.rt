@@ -63,8 +63,6 @@ pub(super) fn mean(sums: (u64, u64)) -> Option<u32>
     ensures value { result ≡ mean_of sums }
     ensures bound { IfSome result (λ margin. margin ≤ 10000000) }
 {
-    let Some(ratio) = Ratio::new(sums.0, sums.1) else {
-        return None;
-    };
+    let ratio = Ratio::new(sums.0, sums.1)?;
     Some(ratio.rounded() as u32)
 }

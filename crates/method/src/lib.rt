@@ -46,6 +46,10 @@ mod refusals;
 
 pub use groups::group_sums;
 
+mod weighted;
+
+pub use weighted::weighted_mean;
+
 mod averages;
 
 pub use averages::Average;

@@ -35,9 +35,6 @@ impl Method for Simple {
     fn operating_margin<R: Register>(&self, register: &mut R) -> Result<u32, MethodFault> {
         let (_, other) = group_sums(register)?;
         self.check_years()?;
-        let Some(margin) = mean(other) else {
-            return Err(refusal(Rule::NoShare, 0));
-        };
-        Ok(margin)
+        mean(other).ok_or(refusal(Rule::NoShare, 0))
     }
 }
