@@ -1,5 +1,5 @@
 -- Two margins, weighted and rounded once.
-use Rattle.std.proofs.Common.{◌≡◌, ℕ, ◌+◌, ◌*◌, arith}
+use Rattle.std.proofs.Common.{ℕ, ◌+◌, ◌*◌, arith}
 use Rattle.model.specs.Fraction.{Frac, Within, ratio}
 use Rattle.model.specs.Promise.{mixed}
 use Rattle.model.specs.Rounding.{rounded}

@@ -73,7 +73,7 @@ pub fn combined_margin<R: Register, M: Method>(
 {
     register.restart();
     let day = question::<M>(weights, reference)?;
-    let _ = walk(register, Layer::Combined, &mut Passing {})?;
+    walk(register, Layer::Combined, &mut Passing {})?;
     let operating = method.operating_margin(register)?;
     let build = weighted_build(weights, register, day)?;
     let combined = weighted_mean(

@@ -1,11 +1,11 @@
 -- The yearly pairs: what a pair that stands has passed, and why there is always room.
-use Rattle.std.proofs.Common.{◌≡◌, ℕ, zero, suc, ◌+◌, ◌<◌, ◌≤◌, Bool, true, false, cond, not, ◌&&◌, eqb, leb, List, [], ◌∷◌, ◌++◌, length, get_or, Some, None, Ok, Err, sum_by, count_by, Option, refl, inl, inr, arith}
+use Rattle.std.proofs.Common.{◌≡◌, ℕ, zero, suc, ◌+◌, ◌<◌, ◌≤◌, Bool, true, false, cond, not, ◌&&◌, eqb, leb, List, [], ◌∷◌, ◌++◌, length, get_or, Some, None, Ok, sum_by, count_by, refl, inl, inr, arith}
 use Rattle.std.specs.List.{AllPass, list_any}
 use Rattle.std.proofs.lemmas.List.{length_push}
 use Rattle.std.proofs.lemmas.List.Elements.{All-head, All-tail}
 use Rattle.std.proofs.lemmas.Grind.{elements}
 use Rattle.std.proofs.lemmas.List.Sums.{sum_by-le, sum_by_push}
-use Rattle.std.proofs.lemmas.Bool.{and_parts, cases_Bool, eqb-true, leb-true, ltb-false, not-false}
+use Rattle.std.proofs.lemmas.Bool.{and_parts, cases_Bool, eqb-true, leb-true, ltb-false}
 use Rattle.std.proofs.lemmas.Bool.Decides.{nat_tests}
 use Rattle.model.specs.declared.faults.Fault.{Fault}
 use Rattle.model.specs.declared.faults.MethodFault.{MethodFault}
@@ -13,7 +13,7 @@ use Rattle.model.specs.declared.faults.Rule.TheVariants.{MethodClosed, Missing}
 use Rattle.model.specs.declared.records.YearlyPair.{YearlyPair}
 use Rattle.model.specs.Faults.{first_of, unless_refused}
 use Rattle.model.specs.Methods.{closed, method_fault}
-use Rattle.model.specs.Operating.{is_year, pair_answer, pair_fault, pair_in_range, pairs_after, years_fault}
+use Rattle.model.specs.Operating.{is_year, pair_answer, pair_in_range, years_fault}
 use Rattle.model.specs.Plain.{any}
 use Rattle.model.proofs.Firsts.{count-cons}
 
@@ -36,32 +36,18 @@ any_is p (x ∷ xs) = grind (arith, nat_tests, any_is p xs, count-cons p x xs)
 -- ---- a pair that is not refused
 
 pub record Passed (ps : List YearlyPair) (p : YearlyPair) : Type 0 where
-  pub none : pair_fault ps p ≡ None
   pub ranged : pair_in_range p ≡ true
   pub apart : count_by (is_year p.year) ps ≡ 0
 
-pub not-refused : {A : Type 0} (f : Option Fault) (x : A) → Ok x ≡ unless_refused {E = MethodFault} (λ e. record { fault = e }) f x → f ≡ None
-not-refused None x h = refl
-not-refused (Some f) x h = cc
-
-pub refused-by : {A : Type 0} (f : Option Fault) (y : MethodFault) (x : A) → Err y ≡ unless_refused {E = MethodFault} (λ e. record { fault = e }) f x → f ≡ Some y.fault
-refused-by None y x h = cc
-refused-by (Some f) y x h = cc
-
-both-passed : (a b : Bool) (f g : Fault) → first_of ((a, f) ∷ (b, g) ∷ []) ≡ None → (a ≡ false) × (b ≡ false)
-both-passed true b f g h = (cc, cc)
-both-passed false true f g h = (cc, cc)
-both-passed false false f g h = (refl, refl)
+both-passed : (fits stands : Bool) (f g : Fault) → Ok (tt {0}) ≡ unless_refused {A = Unit {0}} {E = MethodFault} (λ e. record { fault = e }) (first_of ((not fits, f) ∷ (stands, g) ∷ [])) (tt {0}) → (fits ≡ true) × (stands ≡ false)
+both-passed true true f g h = (refl, cc)
+both-passed true false f g h = (refl, refl)
+both-passed false stands f g h = (cc, cc)
 
 pub passed : (ps : List YearlyPair) (p : YearlyPair) → Ok tt ≡ pair_answer ps p → Passed ps p
 passed ps p h =
-    let none = not-refused (pair_fault ps p) tt h in
-    let k = both-passed (not (pair_in_range p)) (any (is_year p.year) ps) _ _ none in
-    record { none = none; ranged = not-false (pair_in_range p) k.0; apart = omega (arith, ltb-false 0 (count_by (is_year p.year) ps) k.1) }
-
--- one that is refused leaves the pairs
-pub pairs-stay : (ps : List YearlyPair) (p : YearlyPair) (y : MethodFault) → Err y ≡ pair_answer ps p → ps ≡ pairs_after ps p
-pairs-stay ps p y h = rw (refused-by (pair_fault ps p) y tt h) refl
+    let k = both-passed (pair_in_range p) (any (is_year p.year) ps) _ _ h in
+    record { ranged = k.0; apart = omega (arith, ltb-false 0 (count_by (is_year p.year) ps) k.1) }
 
 -- ---- five years, no two pairs of one year
 

@@ -10,7 +10,7 @@ use model::{Layer, PowerUnit, Ratio, RegisterFault};
 use register::{Fold, Register, walk};
 
 // Grams and generation of each group.
-#[derive(Clone, Copy)]
+#[derive(Clone, Copy, Default)]
 pub struct GroupSums {
     low_cost: (u64, u64),
     other: (u64, u64),
@@ -28,32 +28,31 @@ impl Fold for GroupSums {
     ghost room = { Prim.search rules };
 
     fn clear(&mut self) {
-        self.low_cost = (0, 0);
-        self.other = (0, 0);
+        *self = GroupSums::default();
     }
 
     fn take(&mut self, unit: &PowerUnit) {
         let generation = u64::from(unit.generation);
         if unit.class.is_low_cost() {
-            self.low_cost = (self.low_cost.0 + unit.grams, self.low_cost.1 + generation);
+            self.low_cost.0 += unit.grams;
+            self.low_cost.1 += generation;
         } else {
-            self.other = (self.other.0 + unit.grams, self.other.1 + generation);
+            self.other.0 += unit.grams;
+            self.other.1 += generation;
         }
     }
 }
 
-// Grams and generation of the low-cost units, then of the others. Leaves the register restarted.
+// Grams and generation of the low-cost units, then of the others. Leaves the register restarted. (Tuples, and no struct that
+// keeps `small`: a rule of the project.)
 pub fn group_sums<R: Register>(register: &mut R) -> Result<((u64, u64), (u64, u64)), RegisterFault>
     ensures contents { R.Register.contents register.new ≡ R.Register.contents register.old }
     ensures restarted { R.Register.coming register.new ≡ told_course (listed (R.Register.contents register.old)) }
     ensures answer { result ≡ if_walked Method (listed (R.Register.contents register.old)) (Ok (group_sums (listed (R.Register.contents register.old)).units)) (λ f. Err (record { fault = f })) }
     ensures small { IfOk result (λ s. (s.0.1 + s.1.1 ≤ 400000000000) × (s.0.0 ≤ 10000000 * s.0.1) × (s.1.0 ≤ 10000000 * s.1.1)) }
 {
-    let mut sums = GroupSums {
-        low_cost: (0, 0),
-        other: (0, 0),
-    };
-    let _ = walk(register, Layer::Method, &mut sums)?;
+    let mut sums = GroupSums::default();
+    walk(register, Layer::Method, &mut sums)?;
     Ok((sums.low_cost, sums.other))
 }
 

@@ -1,6 +1,6 @@
 // The groups taken in as a load year.
 ghost use Rattle.load.specs.Taking.{year_of};
-ghost use Rattle.std.proofs.Common.{rules, arith};
+ghost use Rattle.std.proofs.Common.{rules};
 
 use super::super::LoadYear;
 use super::super::limits::refusal;
@@ -10,7 +10,7 @@ use model::{LoadFault, Rule};
 impl LoadYear for LoadGroups {
     ghost year = { year_of };
 
-    ghost ranged = { first_of (Prim.search rules, Prim.grind (arith, Self.row.coded.inj)) };
+    ghost ranged = { Prim.search rules };
 
     fn load(&self, hour: u32) -> Result<u32, LoadFault> {
         let at = hour as usize;

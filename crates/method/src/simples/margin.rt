@@ -4,7 +4,7 @@ ghost use Rattle.model.specs.Methods.{simple_answer};
 ghost use Rattle.model.specs.Operating.{simple_meaning};
 ghost use Rattle.method.specs.Pairs.{pairs_of};
 ghost use Rattle.method.specs.Means.{simple-fair, simple-near};
-ghost use Rattle.std.proofs.Common.{rules, arith};
+ghost use Rattle.std.proofs.Common.{rules};
 
 use super::super::groups::mean;
 use super::super::refusals::refusal;
@@ -30,7 +30,7 @@ impl Method for Simple {
 
     ghost near = { λ m us ss a h falls few e is. simple-near (pairs_of m) us ss e a h is };
 
-    ghost close = { first_of (Prim.search rules, Prim.grind (arith, Self.row.coded.inj)) };
+    ghost close = { Prim.search rules };
 
     fn operating_margin<R: Register>(&self, register: &mut R) -> Result<u32, MethodFault> {
         let (_, other) = group_sums(register)?;
