@@ -1,11 +1,11 @@
 -- The yearly pairs: what a pair that stands has passed, and why there is always room.
-use Rattle.std.proofs.Common.{◌≡◌, ℕ, zero, suc, ◌+◌, ◌<◌, ◌≤◌, Bool, true, false, cond, not, ◌&&◌, eqb, leb, List, [], ◌∷◌, ◌++◌, length, get_or, Some, None, Ok, sum_by, count_by, refl, inl, inr, arith}
+use Rattle.std.proofs.Common.{◌≡◌, ℕ, zero, suc, ◌+◌, ◌<◌, ◌≤◌, Bool, true, false, cond, not, eqb, List, [], ◌∷◌, ◌++◌, length, get_or, Some, None, Ok, sum_by, count_by, refl, inl, inr, arith}
 use Rattle.std.specs.List.{AllPass, list_any}
 use Rattle.std.proofs.lemmas.List.{length_push}
 use Rattle.std.proofs.lemmas.List.Elements.{All-head, All-tail}
 use Rattle.std.proofs.lemmas.Grind.{elements}
 use Rattle.std.proofs.lemmas.List.Sums.{sum_by-le, sum_by_push}
-use Rattle.std.proofs.lemmas.Bool.{and_parts, cases_Bool, eqb-true, leb-true, ltb-false}
+use Rattle.std.proofs.lemmas.Bool.{cases_Bool, eqb-true, ltb-false}
 use Rattle.std.proofs.lemmas.Bool.Decides.{nat_tests}
 use Rattle.model.specs.declared.faults.Fault.{Fault}
 use Rattle.model.specs.declared.faults.MethodFault.{MethodFault}
@@ -23,10 +23,7 @@ pub record Ranged (p : YearlyPair) : Type 0 where
   pub lower : p.low_cost ≤ p.all
 
 in-range : (p : YearlyPair) → pair_in_range p ≡ true → Ranged p
-in-range p e =
-    let k = and_parts (leb p.year 4) (leb p.all 4000000 && leb p.low_cost p.all) e in
-    let j = and_parts (leb p.all 4000000) (leb p.low_cost p.all) k.1 in
-    record { year = leb-true p.year 4 k.0; all = leb-true p.all 4000000 j.0; lower = leb-true p.low_cost p.all j.1 }
+in-range p e = record { year = grind (arith, nat_tests); all = grind (arith, nat_tests); lower = grind (arith, nat_tests) }
 
 -- whether some element passes, by a search and by a count
 pub any_is : {A : Type 0} (p : A → Bool) (xs : List A) → list_any p xs ≡ any p xs

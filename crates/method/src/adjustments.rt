@@ -76,6 +76,7 @@ impl<L: LoadYear> Method for Adjusted<L> {
         }
         let others_mean = mean(other).ok_or(refusal(Rule::NoShare, 0))?;
         let low_cost_mean = mean(low_cost).unwrap_or(0);
+        // Each mean has the hours that its units are at the margin as its weight.
         let low_cost_hours = low_cost_hours(&loads, low_cost.1) as u16;
         let other_hours = HOURS as u16 - low_cost_hours;
         Ok(weighted_mean((other_hours, others_mean), (low_cost_hours, low_cost_mean)).unwrap())
