@@ -1,8 +1,10 @@
 -- What an entry or a strike owes, from the life of the book's contents.
-use Rattle.std.proofs.Common.{◌≡◌, ℕ, suc, ◌<◌, ◌≤◌, List, [], ◌∷◌, ◌++◌, map, length, get_or, take, drop, set, Ok, Err, sym, refl, ap, ◌∙◌}
+use Rattle.std.proofs.Common.{◌≡◌, ℕ, suc, ◌<◌, List, [], ◌∷◌, ◌++◌, map, length, get_or, take, drop, set, Ok, Err, Result, sym, refl, ap, ◌∙◌}
 use mathlib.Core.List.{map-append}
 use Rattle.std.specs.List.{insert, remove}
+use Rattle.std.specs.Result.{IsErrAnd}
 use Rattle.std.proofs.lemmas.List.{drop-map, length-map, map-set, take-map}
+use Rattle.std.proofs.lemmas.Result.{err_from_is_err_and}
 use Rattle.model.specs.declared.events.Event.{Event}
 use Rattle.model.specs.declared.events.Event.TheVariants.{EnterBurn, EnterUnit, Strike}
 use Rattle.model.specs.declared.faults.BookFault.{BookFault}
@@ -12,13 +14,13 @@ use Rattle.model.specs.declared.units.Fuel.{Fuel}
 use Rattle.model.specs.declared.units.UnitEntry.{UnitEntry}
 use Rattle.model.specs.Course.{told_course}
 use Rattle.model.specs.History.{year_book}
-use Rattle.model.specs.Plain.{Before, Contents, book_course, burn_of, no_unit, verdict}
+use Rattle.model.specs.Plain.{Contents, book_course, burn_of, no_unit, verdict}
 use Rattle.model.proofs.Lives as plain
 use Rattle.model.proofs.Lives.{Quiet, lives-burn, lives-quiet, lives-refused, lives-strike, lives-unit, told}
 use Rattle.book.specs.declared.books.Book.{Book}
 use Rattle.book.specs.declared.standing.StandingUnit.{StandingUnit}
 use Rattle.book.specs.Seen.{Entered, Lives, Restarted, coming, seen}
-use Rattle.book.specs.Standing.{StandsAt, fresh, standing}
+use Rattle.book.specs.Standing.{GoesTo, StandsAt, fresh, standing}
 use Rattle.book.proofs.Read.{read-unit}
 
 pub restarted : (b : Book) → b.at ≡ 0 → Restarted b
@@ -28,9 +30,10 @@ pub accepting : (v : Event) (b c : Book) → Ok tt ≡ verdict (seen b) v → Li
 accepting v b c is lives start =
     record { answer = is; told = told v (seen b) (Ok tt) is; life = lives; changes = record { restarted = restarted c start; refusal = tt } }
 
-pub refusing : (v : Event) (b : Book) (f : BookFault) → Err f ≡ verdict (seen b) v → Entered v b b (Err f)
-refusing v b f is =
-    record { answer = is; told = told v (seen b) (Err f) is; life = lives-refused v (seen b) f is; changes = record { restarted = tt; refusal = refl } }
+pub refusing : (v : Event) (b : Book) (f : BookFault) (r : Result (Unit {0}) BookFault) → IsErrAnd r (λ g. g ≡ f) → Err f ≡ verdict (seen b) v → Entered v b b r
+refusing v b f r gone is =
+    let e = err_from_is_err_and r gone in
+    rw (e.1, e.2) record { answer = is; told = told v (seen b) (Err f) is; life = lives-refused v (seen b) f is; changes = record { restarted = tt; refusal = refl } }
 
 map-inserted : {X Y : Type 0} (f : X → Y) (xs : List X) (i : ℕ) (x : X) → map f (insert xs i x) ≡ insert (map f xs) i (f x)
 map-inserted f xs i x = map-append f (take i xs) (x ∷ drop i xs) ∙ rw (take-map f i xs, drop-map f i xs) refl
@@ -43,11 +46,10 @@ map-removed f xs i = map-append f (take i xs) (drop (suc i) xs) ∙ rw (take-map
 abbrev holds : List Fuel → List StandingUnit → Contents
 holds fs xs = record { fuels = fs; units = map standing xs }
 
--- zs is the table as the search for the place read it
-pub unit-entered : (fs : List Fuel) (xs ys zs : List StandingUnit) (i : ℕ) (e : UnitEntry) (u : StandingUnit) → Ok tt ≡ verdict (holds fs xs) (EnterUnit e) → zs ≡ xs → ys ≡ insert xs i u → standing u ≡ fresh e → ((k : ℕ) → k < i → Before (get_or (map standing zs) k no_unit) (fresh e)) → (i < length (map standing zs) → Before (get_or (map standing zs) i no_unit) (fresh e) → ⊥) → i ≤ length (map standing zs) → plain.Lives (EnterUnit e) (holds fs xs) (holds fs ys)
-unit-entered fs xs ys zs i e u is read made new newer stops le =
-    let k : map standing ys ≡ insert (map standing xs) i (fresh e) = ap (map standing) made ∙ map-inserted standing xs i u ∙ ap (insert (map standing xs) i) new in
-    lives-unit (holds fs xs) (map standing ys) i e is k (rw read at newer) (rw read at stops) (rw read at le)
+pub unit-entered : (fs : List Fuel) (xs ys : List StandingUnit) (i : ℕ) (e : UnitEntry) (u : StandingUnit) → Ok tt ≡ verdict (holds fs xs) (EnterUnit e) → ys ≡ insert xs i u → standing u ≡ fresh e → GoesTo e (map standing xs) i → plain.Lives (EnterUnit e) (holds fs xs) (holds fs ys)
+unit-entered fs xs ys i e u is made new at =
+    lives-unit (holds fs xs) (map standing ys) i e is
+    (ap (map standing) made ∙ map-inserted standing xs i u ∙ ap (insert (map standing xs) i) new) at.newer at.stops at.bound
 
 -- u is the unit as it stood, and w with the burn
 pub burn-entered : (fs : List Fuel) (xs : List StandingUnit) (i : ℕ) (e : BurnEntry) (u w : StandingUnit) (b : Burn) → Ok tt ≡ verdict (holds fs xs) (EnterBurn e) → StandsAt e.unit (map standing xs) i → u ≡ get_or xs i u → b ≡ burn_of (holds fs xs) e → standing w ≡ record { entry = (standing u).entry; burns = (standing u).burns ++ b ∷ [] } → plain.Lives (EnterBurn e) (holds fs xs) (holds fs (set xs i w))

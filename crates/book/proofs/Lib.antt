@@ -1,5 +1,6 @@
 pub mod Bounds
+pub mod Firsts
 pub mod Lowest
-pub mod Tables
+pub mod Order
 pub mod Read
 pub mod Entering

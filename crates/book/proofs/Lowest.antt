@@ -1,15 +1,21 @@
--- The lowest carbon factor, one burn after another.
-use Rattle.std.proofs.Common.{◌≡◌, ◌-◌, ◌<◌, min, List, [], ◌∷◌, ◌++◌, length, get_or, take, drop, Some, sym, refl, ap, arith}
-use Rattle.std.proofs.lemmas.List.{take_all}
+-- The lowest carbon factor is the least of the factors.
+use Rattle.std.proofs.Common.{◌≡◌, ℕ, min, List, [], ◌∷◌, map, refl, ap, Some, ◌∙◌, arith}
+use Rattle.std.specs.List.{fold, reduce}
 use Rattle.model.specs.declared.units.Burn.{Burn}
 use Rattle.model.specs.Units.{lowest}
-use Rattle.book.specs.Burns.{lowest_of, no_burn}
+use Rattle.book.specs.Burns.{lowest_of}
 
-pub lowest-push : (b : Burn) (bs : List Burn) (d : Burn) → lowest b (bs ++ d ∷ []) ≡ min (lowest b bs) d.fuel.carbon_factor
-lowest-push b [] d = refl
-lowest-push b (a ∷ bs) d = let p = lowest-push a bs d in omega (arith, p)
+abbrev factor : Burn → ℕ
+factor b = b.fuel.carbon_factor
 
--- taken apart into its first burn and the rest
-pub lowest-parts : (bs : List Burn) → 0 < length bs → lowest_of bs ≡ Some (lowest (get_or bs 0 no_burn) (take (length bs - 1) (drop 1 bs)))
-lowest-parts [] h = absurd (omega arith)
-lowest-parts (b ∷ bs) h = ap (λ ds. Some (lowest b ds)) (sym (take_all (length (b ∷ bs) - 1) bs (omega arith)))
+fold-min : (m n : ℕ) (bs : List Burn) → fold min (min m n) (map factor bs) ≡ min m (fold min n (map factor bs))
+fold-min m n [] = refl
+fold-min m n (b ∷ bs) = let h = fold-min m (min n (factor b)) bs in ap (λ k. fold min k (map factor bs)) (omega arith) ∙ h
+
+lowest-fold : (b : Burn) (bs : List Burn) → fold min (factor b) (map factor bs) ≡ lowest b bs
+lowest-fold b [] = refl
+lowest-fold b (d ∷ bs) = fold-min (factor b) (factor d) bs ∙ ap (min (factor b)) (lowest-fold d bs)
+
+pub lowest-least : (bs : List Burn) → reduce min (map factor bs) ≡ lowest_of bs
+lowest-least [] = refl
+lowest-least (b ∷ bs) = ap Some (lowest-fold b bs)

@@ -13,10 +13,8 @@ pub record Found (c : ℕ) (xs : List StandingUnit) (i : ℕ) (u : StandingUnit)
   pub at : StandsAt c (map standing xs) i
   pub is : unit_of c (map standing xs) ≡ standing u
 
-pub found-unit : (c : ℕ) (xs ys : List StandingUnit) (i : ℕ) (u : StandingUnit) → ys ≡ xs → StandsAt c (map standing ys) i → u ≡ get_or xs i u → Found c xs i u
-found-unit c xs ys i u read s is =
-    let s' = rw read at s in
-    record { at = s'; is = s'.is ∙ read-unit xs i u (rw length-map at s'.within) is }
+pub found-unit : (c : ℕ) (xs : List StandingUnit) (i : ℕ) (u : StandingUnit) → StandsAt c (map standing xs) i → u ≡ get_or xs i u → Found c xs i u
+found-unit c xs i u s is = record { at = s; is = s.is ∙ read-unit xs i u (rw length-map at s.within) is }
 
 -- what is still to come begins with the unit that is read next
 pub next-unit : (us : List StandingUnit) (n : ℕ) (u : StandingUnit) → n < length us → u ≡ get_or us n u → drop n (map standing us) ≡ standing u ∷ drop (n + 1) (map standing us)

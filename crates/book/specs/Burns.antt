@@ -1,12 +1,7 @@
--- Burns in a unit's table.
+-- A unit's burns.
 use Rattle.std.specs.Prelude.{ℕ, ◌≤◌, List, [], ◌∷◌, Some, None, Option}
 use Rattle.model.specs.declared.units.Burn.{Burn}
-use Rattle.model.specs.Plain.{no_fuel}
 use Rattle.model.specs.Units.{lowest}
-
--- what stands in a free place of the table
-abbrev pub no_burn : Burn
-no_burn = record { fuel = no_fuel; quantity = 0 }
 
 -- The lowest carbon factor among the burns, if there are any.
 abbrev pub lowest_of : List Burn → Option ℕ

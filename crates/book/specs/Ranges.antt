@@ -1,10 +1,10 @@
 -- Every unit of the table is in range, by what holds of it alone.
 use Rattle.std.specs.Prelude.{◌≤◌, List, [], ◌∷◌, map}
-use Rattle.std.proofs.ByRecursion.{All-from_get_or, All-take}
+use Rattle.std.proofs.lemmas.List.Elements.{All-weaker, recursion_from_All}
 use Rattle.model.specs.Units.{InRange, Ranged, listed_unit}
 use Rattle.model.proofs.Emissions.{in-range}
 use Rattle.book.specs.declared.standing.StandingUnit.{StandingUnit}
-use Rattle.book.specs.Burns.{no_burn}
+use Rattle.book.specs.Burns.{Fits}
 use Rattle.book.specs.Standing.{standing}
 
 unit-in-range : (u : StandingUnit) → InRange (listed_unit (standing u))
@@ -15,7 +15,7 @@ unit-in-range u =
       short = u.short;
       dated = u.dated;
       ranged = u.ranged;
-      factors = All-take (λ b. b.fuel.carbon_factor ≤ 320000) u.count u.burns (All-from_get_or (λ b. b.fuel.carbon_factor ≤ 320000) u.burns no_burn (λ k _. u.factors k));
+      factors = recursion_from_All (λ b. b.fuel.carbon_factor ≤ 320000) u.burns.items (All-weaker Fits (λ b. b.fuel.carbon_factor ≤ 320000) (λ b f. f.carbon) u.burns.items u.fitting);
       capped = u.capped;
     })
 

@@ -5,7 +5,6 @@ ghost use Rattle.model.specs.Plain.{book_fault, efficiency_in_range, fuel_in_ran
 ghost use Rattle.book.specs.Seen.{seen};
 ghost use Rattle.book.specs.Standing.{TakesBurn, TakesStrike};
 
-use super::lookup::{find_fuel, find_unit};
 use super::{Book, FUELS, UNITS};
 use model::{BookFault, Burn, BurnEntry, Day, Fault, Fuel, Layer, Rule, UnitEntry};
 
@@ -61,7 +60,7 @@ impl Book {
         if !fuel_in_range(fuel) {
             return Err(refusal(Rule::OutOfRange, fuel.code));
         }
-        if find_fuel(&self.fuels, fuel.code).is_some() {
+        if self.find_fuel(fuel.code).is_some() {
             return Err(refusal(Rule::AlreadyStands, fuel.code));
         }
         if self.fuels.len() >= FUELS {
@@ -82,7 +81,7 @@ impl Book {
         if !unit_in_range(entry) {
             return Err(refusal(Rule::OutOfRange, entry.code));
         }
-        if find_unit(&self.units, entry.code).is_some() {
+        if self.find_unit(entry.code).is_some() {
             return Err(refusal(Rule::AlreadyStands, entry.code));
         }
         if self.units.len() >= UNITS {
@@ -101,14 +100,14 @@ impl Book {
         if entry.quantity > QUANTITY {
             return Err(refusal(Rule::OutOfRange, entry.unit));
         }
-        let Some(place) = find_unit(&self.units, entry.unit) else {
+        let Some(place) = self.find_unit(entry.unit) else {
             return Err(refusal(Rule::NotStanding, entry.unit));
         };
-        let unit = self.units[place];
+        let unit = &self.units[place];
         if unit.burns_fuel(entry.fuel) {
             return Err(refusal(Rule::AlreadyStands, entry.unit));
         }
-        let Some(fuel) = find_fuel(&self.fuels, entry.fuel) else {
+        let Some(fuel) = self.find_fuel(entry.fuel) else {
             return Err(refusal(Rule::NotStanding, entry.fuel));
         };
         let burn = Burn {
@@ -130,7 +129,7 @@ impl Book {
         if code == 0 {
             return Err(refusal(Rule::ZeroCode, code));
         }
-        let Some(place) = find_unit(&self.units, code) else {
+        let Some(place) = self.find_unit(code) else {
             return Err(refusal(Rule::NotStanding, code));
         };
         Ok(place)

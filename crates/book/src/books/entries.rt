@@ -5,7 +5,6 @@ ghost use Rattle.model.specs.Plain.{empty};
 ghost use Rattle.book.specs.Seen.{After, Entered, Restarted, seen};
 
 use super::super::StandingUnit;
-use super::lookup::place;
 use super::{Book, FUELS, UNITS};
 use model::{BookFault, BurnEntry, Fuel, UnitEntry};
 use std::alloc::{AllocError, Global};
@@ -38,12 +37,9 @@ impl Book {
         ensures { Entered (EnterUnit entry) self.old self.new result }
     {
         self.check_unit(&entry)?;
-        let at = place(&self.units, entry);
-        match self.units.insert(at, StandingUnit::new(entry)) {
-            Ok(()) => {}
-            // The room is reserved.
-            Err(_) => unreachable(),
-        }
+        let at = self.place(entry);
+        // The room is reserved.
+        self.units.insert(at, StandingUnit::new(entry)).unwrap();
         self.at = 0;
         Ok(())
     }
@@ -52,8 +48,7 @@ impl Book {
         ensures { Entered (EnterBurn entry) self.old self.new result }
     {
         let accepted = self.check_burn(&entry)?;
-        let unit = self.units[accepted.place].with_burn(accepted.burn);
-        self.units[accepted.place] = unit;
+        self.units[accepted.place].add_burn(accepted.burn);
         self.at = 0;
         Ok(())
     }

@@ -1,54 +1,42 @@
 // Where fuels and units stand.
-ghost use Rattle.std.specs.Prelude.{◌≡◌, ℕ, ◌<◌, ◌≤◌, map, length, is_some, IfSome, Decides, slice_index_or};
-ghost use Rattle.model.specs.Plain.{Before, any, fuel_of, is_fuel, is_unit, no_unit};
-ghost use Rattle.book.specs.Standing.{StandsAt, fresh, standing};
+ghost use Rattle.std.specs.Prelude.{◌≡◌, is_some, IfSome, Decides};
+ghost use Rattle.model.specs.Plain.{Before, any, fuel_of, is_fuel, is_unit};
+ghost use Rattle.book.specs.Seen.{seen};
+ghost use Rattle.book.specs.Standing.{GoesTo, StandsAt, fresh};
 
-use super::super::StandingUnit;
+use super::Book;
 use model::{Fuel, UnitEntry};
-
-// The fuel with the code.
-pub(super) fn find_fuel(fuels: &[Fuel], code: u16) -> Option<Fuel>
-    ensures test { is_some result ≡ any (is_fuel code) fuels.now }
-    ensures value { IfSome result (λ fuel. fuel ≡ fuel_of code fuels.now) }
-{
-    for fuel in fuels {
-        if fuel.code == code {
-            return Some(*fuel);
-        }
-    }
-    None
-}
-
-// The place of the unit with the code.
-pub(super) fn find_unit(units: &[StandingUnit], code: u16) -> Option<usize>
-    ensures test { is_some result ≡ any (is_unit code) (map standing units.now) }
-    ensures place { IfSome result (λ i. StandsAt code (map standing units.now) i) }
-{
-    for (i, unit) in units.iter().enumerate() {
-        if unit.entry().code == code {
-            return Some(i);
-        }
-    }
-    None
-}
+use std::cmp::Reverse;
 
 // The first stands before the second: it is newer, or of the same day with the lower code.
 fn is_before(first: UnitEntry, second: UnitEntry) -> bool
     ensures { Decides result (Before (fresh first) (fresh second)) }
 {
-    first.day > second.day || (first.day == second.day && first.code < second.code)
+    (Reverse(first.day), first.code) < (Reverse(second.day), second.code)
 }
 
-// The place for a new unit: behind all that stand before it.
-pub(super) fn place(units: &[StandingUnit], added: UnitEntry) -> usize
-    ensures bound { result ≤ length (map standing units.now) }
-    ensures newer { (k : ℕ) → k < result → Before (slice_index_or (map standing units.now) k no_unit) (fresh added) }
-    ensures stops { result < length (map standing units.now) → Before (slice_index_or (map standing units.now) result no_unit) (fresh added) → ⊥ }
-{
-    for (i, unit) in units.iter().enumerate() {
-        if !is_before(unit.entry(), added) {
-            return i;
-        }
+impl Book {
+    // The fuel with the code.
+    pub(super) fn find_fuel(&self, code: u16) -> Option<Fuel>
+        ensures test { is_some result ≡ any (is_fuel code) (seen self.now).fuels }
+        ensures value { IfSome result (λ fuel. fuel ≡ fuel_of code (seen self.now).fuels) }
+    {
+        self.fuels.iter().find(|fuel| fuel.code == code).copied()
     }
-    units.len()
+
+    // The place of the unit with the code.
+    pub(super) fn find_unit(&self, code: u16) -> Option<usize>
+        ensures test { is_some result ≡ any (is_unit code) (seen self.now).units }
+        ensures place { IfSome result (λ i. StandsAt code (seen self.now).units i) }
+    {
+        self.units.iter().position(|unit| unit.entry().code == code)
+    }
+
+    // The place for a new unit: behind all that stand before it.
+    pub(super) fn place(&self, added: UnitEntry) -> usize
+        ensures { GoesTo added (seen self.now).units result }
+    {
+        self.units
+            .partition_point(|unit| is_before(unit.entry(), added))
+    }
 }

@@ -40,7 +40,7 @@ impl Register for Book {
         if self.at >= self.units.len() {
             return Ok(None);
         }
-        let unit = self.units[self.at].told();
+        let unit = PowerUnit::from(&self.units[self.at]);
         self.at += 1;
         Ok(Some(unit))
     }

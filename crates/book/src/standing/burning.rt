@@ -1,5 +1,5 @@
-// The table of a unit's burns.
-ghost use Rattle.std.specs.Prelude.{◌≡◌, ◌+◌, ◌*◌, ◌<◌, ◌≤◌, true, false, [], ◌∷◌, ◌++◌, length, sum_by, nat_le};
+// A unit's burns.
+ghost use Rattle.std.specs.Prelude.{◌≡◌, ◌<◌, ◌≤◌, false, [], ◌∷◌, ◌++◌, length, sum_by, nat_le};
 ghost use Rattle.model.specs.Plain.{any, burns_fuel, exceeds};
 ghost use Rattle.model.specs.Units.{burned};
 ghost use Rattle.book.specs.Burns.{Fits};
@@ -7,9 +7,6 @@ ghost use Rattle.book.specs.Standing.{standing};
 
 use super::StandingUnit;
 use model::Burn;
-
-// The burns that a unit has place for.
-const PLACES: usize = 4;
 
 // The most thousandths of a gram that a unit without an efficiency may emit for each MWh.
 const MOST: u64 = 10_000_000_000;
@@ -30,19 +27,14 @@ impl StandingUnit {
     pub(crate) fn burns_fuel(&self, code: u16) -> bool
         ensures { result ≡ any (burns_fuel code) (standing self.now).burns }
     {
-        for burn in self.burns() {
-            if burn.fuel.code == code {
-                return true;
-            }
-        }
-        false
+        self.burns.iter().any(|burn| burn.fuel.code == code)
     }
 
     // No place is left for a burn.
     pub(crate) fn is_full(&self) -> bool
         ensures { result ≡ nat_le 4 (length (standing self.now).burns) }
     {
-        self.burns().len() >= PLACES
+        self.burns.is_full()
     }
 
     // The thousandths of a gram from all burns.
@@ -50,11 +42,7 @@ impl StandingUnit {
         ensures value { result ≡ sum_by burned (standing self.now).burns }
         ensures bound { result ≤ 1280000000000000000 }
     {
-        let mut sum = 0;
-        for burn in self.burns() {
-            sum += thousandths(burn);
-        }
-        sum
+        self.burns.iter().map(thousandths).sum()
     }
 
     // With this burn too, a unit without an efficiency would emit more than the limit.
@@ -66,19 +54,12 @@ impl StandingUnit {
             && MOST * u64::from(self.entry.generation) < self.burned() + thousandths(burn)
     }
 
-    // The unit with one burn more.
-    pub(crate) fn with_burn(self, burn: Burn) -> StandingUnit
+    pub(crate) fn add_burn(&mut self, burn: Burn)
         requires fits { Fits burn }
-        requires room { length (standing self).burns < 4 }
-        requires capped { exceeds (standing self) burn ≡ false }
-        ensures { standing result ≡ record { entry = (standing self).entry; burns = (standing self).burns ++ burn ∷ [] } }
+        requires room { length (standing self.old).burns < 4 }
+        requires capped { exceeds (standing self.old) burn ≡ false }
+        ensures { standing self.new ≡ record { entry = (standing self.old).entry; burns = (standing self.old).burns ++ burn ∷ [] } }
     {
-        let mut burns = self.burns;
-        burns[self.count] = burn;
-        StandingUnit {
-            entry: self.entry,
-            burns,
-            count: self.count + 1,
-        }
+        self.burns.push(burn);
     }
 }

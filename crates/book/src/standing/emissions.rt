@@ -1,6 +1,5 @@
 // What a unit emits.
 ghost use Rattle.std.specs.Prelude.{◌≡◌, ◌<◌, ◌≤◌, IfSome};
-ghost use Rattle.model.specs.Fraction.{ratio};
 ghost use Rattle.model.specs.Units.{by_efficiency, default_emission, emission, listed_unit, told};
 ghost use Rattle.std.specs.Option.{option_map};
 ghost use Rattle.book.specs.Burns.{lowest_of};
@@ -9,30 +8,13 @@ ghost use Rattle.book.specs.Standing.{fraction, standing};
 use super::StandingUnit;
 use model::{Class, PowerUnit, Ratio};
 
-fn quotient(num: u64, den: u64) -> Ratio
-    requires { 0 < den }
-    ensures { fraction result ≡ ratio num den }
-{
-    match Ratio::new(num, den) {
-        Some(ratio) => ratio,
-        None => unreachable(),
-    }
-}
-
 impl StandingUnit {
     // The lowest carbon factor among the burns, if there are any.
     fn lowest_carbon_factor(&self) -> Option<u32>
         ensures value { result ≡ lowest_of (standing self.now).burns }
         ensures bound { IfSome result (λ factor. factor ≤ 320000) }
     {
-        let [first, rest @ ..] = self.burns() else {
-            return None;
-        };
-        let mut lowest = first.fuel.carbon_factor;
-        for burn in rest {
-            lowest = lowest.min(burn.fuel.carbon_factor);
-        }
-        Some(lowest)
+        self.burns.iter().map(|burn| burn.fuel.carbon_factor).min()
     }
 
     // Grams by an efficiency in per mille, 0 without burns.
@@ -41,12 +23,10 @@ impl StandingUnit {
         ensures { fraction result ≡ by_efficiency (standing self.now).entry.generation efficiency (standing self.now).burns }
     {
         let Some(factor) = self.lowest_carbon_factor() else {
-            return quotient(0, 1);
+            return Ratio::new(0, 1).unwrap();
         };
-        quotient(
-            u64::from(self.entry.generation) * u64::from(factor) * 3_600,
-            u64::from(efficiency),
-        )
+        let grams = u64::from(self.entry.generation) * u64::from(factor) * 3_600;
+        Ratio::new(grams, u64::from(efficiency)).unwrap()
     }
 
     // The exact emission in grams: by the fuel burned, or by the efficiency where there is one.
@@ -54,7 +34,7 @@ impl StandingUnit {
         ensures { fraction result ≡ emission (standing self.now) }
     {
         if self.entry.efficiency == 0 {
-            quotient(self.burned(), 1_000)
+            Ratio::new(self.burned(), 1_000).unwrap()
         } else {
             self.by_efficiency(self.entry.efficiency)
         }
@@ -64,31 +44,28 @@ impl StandingUnit {
     pub fn default_emission(&self) -> Option<Ratio>
         ensures { option_map fraction result ≡ default_emission (standing self.now) }
     {
-        if self.burns().is_empty() {
-            return Some(quotient(0, 1));
+        if self.burns.is_empty() {
+            return Ratio::new(0, 1);
         }
         if self.entry.default_efficiency == 0 {
             return None;
         }
         Some(self.by_efficiency(self.entry.default_efficiency))
     }
+}
 
-    // The unit as a register tells it.
-    pub(crate) fn told(&self) -> PowerUnit
-        ensures { result ≡ told (listed_unit (standing self.now)) }
-    {
-        let default_grams = match self.default_emission() {
-            Some(emission) => Some(emission.rounded()),
-            None => None,
-        };
+// The unit as a register tells it.
+impl From<&StandingUnit> for PowerUnit {
+    ghost from_gives = { λ unit outcome. outcome ≡ told (listed_unit (standing unit.now)) };
+
+    fn from(unit: &StandingUnit) -> PowerUnit {
         PowerUnit {
-            code: self.entry.code,
-            day: self.entry.day,
-            // An entry of any other class is refused, so that the import is never taken.
-            class: Class::numbered(self.entry.class).unwrap_or(Class::Import),
-            generation: self.entry.generation,
-            grams: self.emission().rounded(),
-            default_grams,
+            code: unit.entry.code,
+            day: unit.entry.day,
+            class: Class::numbered(unit.entry.class).unwrap(),
+            generation: unit.entry.generation,
+            grams: unit.emission().rounded(),
+            default_grams: unit.default_emission().map(|emission| emission.rounded()),
         }
     }
 }

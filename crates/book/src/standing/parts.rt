@@ -1,23 +1,14 @@
 // What a unit is made of: its entry and its burns.
 ghost use Rattle.std.specs.Prelude.{◌≡◌, ◌≤◌, true, length};
-ghost use Rattle.std.specs.List.{AllByRecursion};
+ghost use Rattle.std.specs.List.{All};
 ghost use Rattle.model.specs.Calendar.{is_day};
 ghost use Rattle.model.specs.Plain.{unit_in_range};
 ghost use Rattle.book.specs.Burns.{Fits};
 ghost use Rattle.book.specs.Standing.{fresh, standing};
 
 use super::StandingUnit;
-use model::{Burn, Fuel, UnitEntry};
-
-// What stands in a free place of the table.
-const NO_BURN: Burn = Burn {
-    fuel: Fuel {
-        code: 0,
-        heat_content: 0,
-        carbon_factor: 0,
-    },
-    quantity: 0,
-};
+use arrayvec::ArrayVec;
+use model::{Burn, UnitEntry};
 
 impl StandingUnit {
     // A unit as it is entered, without burns.
@@ -29,8 +20,7 @@ impl StandingUnit {
     {
         StandingUnit {
             entry,
-            burns: [NO_BURN; 4],
-            count: 0,
+            burns: ArrayVec::new(),
         }
     }
 
@@ -44,8 +34,8 @@ impl StandingUnit {
     pub fn burns(&self) -> &[Burn]
         ensures value { result.now ≡ (standing self.now).burns }
         ensures few { length result.now ≤ 4 }
-        ensures fits { AllByRecursion Fits result.now }
+        ensures fits { All Fits result.now }
     {
-        &self.burns[0..self.count]
+        &self.burns
     }
 }

@@ -14,7 +14,7 @@ use Rattle.book.specs.Seen.{seen}
 use Rattle.book.specs.Standing.{standing}
 use Rattle.book.proofs.Read.{Found, found-unit}
 use Rattle.book.proofs.books.Book.check_burn.Goals as goal
-use Rattle.book.proofs.books.Book.check_burn.Goals.{After-index, Else-burns_fuel, Else-is_full, In-Some-find_fuel}
+use Rattle.book.proofs.books.Book.check_burn.Goals.{After-index-unit, Else-burns_fuel, Else-is_full, In-Some-find_fuel}
 
 -- what a read past the last check would give
 abbrev past : Bool × Fault
@@ -33,7 +33,7 @@ pub returns-in_default : goal.returns-in_default
 returns-in_default c =
     let p = seen c.args.self.now in
     let e = c.args.entry.now in
-    let absent : false ≡ any (is_unit e.unit) p.units = rw c.deref.ensures.value at c.in_default.ensures.test in
+    let absent : false ≡ any (is_unit e.unit) p.units = c.in_default.ensures.test in
     let none = first-none (is_unit e.unit) no_unit p.units (omega (arith, ltb-false _ _ (sym absent))) in
     let unburned : any (burns_fuel e.fuel) (unit_of e.unit p.units).burns ≡ false = rw none refl in
     ap Err c.refusal-in_default.ensures
@@ -41,31 +41,30 @@ returns-in_default c =
     (coded e.unit e.fuel c.if-entry-eq0.false c.if-entry-eq0-2.false, (le-ltb 10000000 e.quantity c.if-entry-gt-QUANTITY.false, (unburned, tt)))
     (not_from_false _ (sym absent))
 
-pub index-requires : goal.index-requires
-index-requires c =
-    let s = rw c.deref.ensures.value at c.in-Some.ensures.place in
-    omega (arith, s.within, length-map (vec_items c.args.self.now.units) standing, c.args.self.now.units.ok.0)
+pub index-unit-requires : goal.index-unit-requires
+index-unit-requires c =
+    omega (arith, c.in-Some.ensures.place.within, length-map (vec_items c.args.self.now.units) standing, c.args.self.now.units.ok.0)
 
-read : (c : After-index) → Found c.args.entry.now.unit (vec_items c.args.self.now.units) c.in-Some.place c.index.result.now
-read c = found-unit c.args.entry.now.unit (vec_items c.args.self.now.units) c.deref.result.now c.in-Some.place c.index.result.now c.deref.ensures.value c.in-Some.ensures.place c.index.ensures
+read : (c : After-index-unit) → Found c.args.entry.now.unit (vec_items c.args.self.now.units) c.in-Some.place c.index-unit.result.now
+read c = found-unit c.args.entry.now.unit (vec_items c.args.self.now.units) c.in-Some.place c.index-unit.result.now c.in-Some.ensures.place c.index-unit.ensures
 
 pub returns-then-burns_fuel : goal.returns-then-burns_fuel
 returns-then-burns_fuel c =
     let p = seen c.args.self.now in
     let e = c.args.entry.now in
-    let burns : any (burns_fuel e.fuel) (unit_of e.unit p.units).burns ≡ true = rw (read (goal.at.returns-then-burns_fuel c).After-index).is (sym c.if-burns_fuel.ensures) in
+    let burns : any (burns_fuel e.fuel) (unit_of e.unit p.units).burns ≡ true = rw (read (goal.at.returns-then-burns_fuel c).After-index-unit).is (sym c.if-burns_fuel.ensures) in
     ap Err c.refusal-then-burns_fuel.ensures
     ∙ refused-at (burn_checks p e) 2 past (omega arith)
     (coded e.unit e.fuel c.if-entry-eq0.false c.if-entry-eq0-2.false, (le-ltb 10000000 e.quantity c.if-entry-gt-QUANTITY.false, tt))
     burns
 
 -- the unit stands, without this fuel
-four : (c : Else-burns_fuel) → Found c.args.entry.now.unit (vec_items c.args.self.now.units) c.in-Some.place c.index.result.now → AllByRecursion (λ t. t.0 ≡ false) (take 4 (burn_checks (seen c.args.self.now) c.args.entry.now))
+four : (c : Else-burns_fuel) → Found c.args.entry.now.unit (vec_items c.args.self.now.units) c.in-Some.place c.index-unit.result.now → AllByRecursion (λ t. t.0 ≡ false) (take 4 (burn_checks (seen c.args.self.now) c.args.entry.now))
 four c found =
     let p = seen c.args.self.now in
     let e = c.args.entry.now in
     let unburned : any (burns_fuel e.fuel) (unit_of e.unit p.units).burns ≡ false = rw found.is (sym c.if-burns_fuel.ensures) in
-    let stands : true ≡ any (is_unit e.unit) p.units = rw c.deref.ensures.value at c.in-Some.ensures.test in
+    let stands : true ≡ any (is_unit e.unit) p.units = c.in-Some.ensures.test in
     (coded e.unit e.fuel c.if-entry-eq0.false c.if-entry-eq0-2.false, (le-ltb 10000000 e.quantity c.if-entry-gt-QUANTITY.false, (unburned, (not_from_true _ (sym stands), tt))))
 
 -- ---- the fuel
@@ -75,17 +74,17 @@ returns-in_default-find_fuel c =
     let p = seen c.args.self.now in
     let e = c.args.entry.now in
     let at = goal.at.returns-in_default-find_fuel c in
-    let absent : false ≡ any (is_fuel e.fuel) p.fuels = rw c.deref-2.ensures.value at c.in_default-find_fuel.ensures.test in
+    let absent : false ≡ any (is_fuel e.fuel) p.fuels = c.in_default-find_fuel.ensures.test in
     ap Err c.refusal-in_default-find_fuel.ensures
-    ∙ refused-at (burn_checks p e) 4 past (omega arith) (four at.Else-burns_fuel (read at.After-index)) (not_from_false _ (sym absent))
+    ∙ refused-at (burn_checks p e) 4 past (omega arith) (four at.Else-burns_fuel (read at.After-index-unit)) (not_from_false _ (sym absent))
 
 five : (c : In-Some-find_fuel) → AllByRecursion (λ t. t.0 ≡ false) (take 4 (burn_checks (seen c.args.self.now) c.args.entry.now)) → AllByRecursion (λ t. t.0 ≡ false) (take 5 (burn_checks (seen c.args.self.now) c.args.entry.now))
 five c t =
-    let fueled : true ≡ any (is_fuel c.args.entry.now.fuel) (seen c.args.self.now).fuels = rw c.deref-2.ensures.value at c.in-Some-find_fuel.ensures.test in
+    let fueled : true ≡ any (is_fuel c.args.entry.now.fuel) (seen c.args.self.now).fuels = c.in-Some-find_fuel.ensures.test in
     (t.0, (t.1.0, (t.1.1.0, (t.1.1.1.0, (not_from_true _ (sym fueled), tt)))))
 
 is-fuel : (c : In-Some-find_fuel) → c.in-Some-find_fuel.fuel ≡ fuel_of c.args.entry.now.fuel (seen c.args.self.now).fuels
-is-fuel c = rw c.deref-2.ensures.value at c.in-Some-find_fuel.ensures.value
+is-fuel c = c.in-Some-find_fuel.ensures.value
 
 is-burn : (c : In-Some-find_fuel) → record { fuel = c.in-Some-find_fuel.fuel; quantity = c.args.entry.now.quantity } ≡ burn_of (seen c.args.self.now) c.args.entry.now
 is-burn c = ap (λ fuel. record { fuel = fuel; quantity = c.args.entry.now.quantity }) (is-fuel c)
@@ -95,7 +94,7 @@ returns-then-is_full c =
     let p = seen c.args.self.now in
     let e = c.args.entry.now in
     let at = goal.at.returns-then-is_full c in
-    let found = read at.After-index in
+    let found = read at.After-index-unit in
     let full : leb 4 (length (unit_of e.unit p.units).burns) ≡ true = rw found.is (sym c.if-is_full.ensures) in
     ap Err c.refusal-then-is_full.ensures
     ∙ refused-at (burn_checks p e) 5 past (omega arith) (five at.In-Some-find_fuel (four at.Else-burns_fuel found)) full
@@ -105,7 +104,7 @@ exceeds-requires c =
     let fits = fuel-fits (seen c.args.self.now) c.args.self.now.reached c.args.entry.now.fuel in
     rw (is-fuel (goal.at.exceeds-requires c).In-Some-find_fuel) record { quantity = c.if-entry-gt-QUANTITY.false; heat = fits.0; carbon = fits.1 }
 
-six : (c : Else-is_full) → Found c.args.entry.now.unit (vec_items c.args.self.now.units) c.in-Some.place c.index.result.now → AllByRecursion (λ t. t.0 ≡ false) (take 5 (burn_checks (seen c.args.self.now) c.args.entry.now)) → AllByRecursion (λ t. t.0 ≡ false) (take 6 (burn_checks (seen c.args.self.now) c.args.entry.now))
+six : (c : Else-is_full) → Found c.args.entry.now.unit (vec_items c.args.self.now.units) c.in-Some.place c.index-unit.result.now → AllByRecursion (λ t. t.0 ≡ false) (take 5 (burn_checks (seen c.args.self.now) c.args.entry.now)) → AllByRecursion (λ t. t.0 ≡ false) (take 6 (burn_checks (seen c.args.self.now) c.args.entry.now))
 six c found t =
     let room : leb 4 (length (unit_of c.args.entry.now.unit (seen c.args.self.now).units).burns) ≡ false = rw found.is (sym c.if-is_full.ensures) in
     (t.0, (t.1.0, (t.1.1.0, (t.1.1.1.0, (t.1.1.1.1.0, (room, tt))))))
@@ -115,7 +114,7 @@ returns-then-exceeds c =
     let p = seen c.args.self.now in
     let e = c.args.entry.now in
     let at = goal.at.returns-then-exceeds c in
-    let found = read at.After-index in
+    let found = read at.After-index-unit in
     let over = same-exceeds (unit_of e.unit p.units) _ (burn_of p e) _ true found.is (is-burn at.In-Some-find_fuel) c.if-exceeds.ensures in
     ap Err c.refusal-then-exceeds.ensures
     ∙ refused-at (burn_checks p e) 6 past (omega arith) (six at.Else-is_full found (five at.In-Some-find_fuel (four at.Else-burns_fuel found))) over
@@ -125,7 +124,7 @@ returns c =
     let p = seen c.args.self.now in
     let e = c.args.entry.now in
     let at = goal.at.returns c in
-    let found = read at.After-index in
+    let found = read at.After-index-unit in
     let is = is-burn at.In-Some-find_fuel in
     let under = same-exceeds (unit_of e.unit p.units) _ (burn_of p e) _ false found.is is c.if-exceeds.ensures in
     let t = six at.Else-is_full found (five at.In-Some-find_fuel (four at.Else-burns_fuel found)) in

@@ -1,5 +1,4 @@
 use Rattle.std.proofs.Common.{refl, arith}
-use Rattle.std.proofs.lemmas.Result.{err_from_is_err_and}
 use Rattle.model.specs.declared.events.Event.TheVariants.{EnterFuel}
 use Rattle.model.proofs.Lives.{lives-fuel, reached-more}
 use Rattle.book.specs.Seen.{seen}
@@ -7,9 +6,7 @@ use Rattle.book.proofs.Entering.{accepting, refusing}
 use Rattle.book.proofs.books.Book.enter_fuel.Goals as goal
 
 pub returns-in_err-check_fuel : goal.returns-in_err-check_fuel
-returns-in_err-check_fuel c =
-    let e = err_from_is_err_and c.from_residual.result c.from_residual.ensures.1 in
-    rw (e.1, e.2) (refusing (EnterFuel c.args.fuel) c.args.self.now _ c.in_err-check_fuel.ensures)
+returns-in_err-check_fuel c = refusing (EnterFuel c.args.fuel) c.args.self.now _ _ c.from_residual.ensures.1 c.in_err-check_fuel.ensures
 
 pub invariant_of-self : goal.invariant_of-self
 invariant_of-self c =

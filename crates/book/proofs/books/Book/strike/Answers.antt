@@ -1,6 +1,5 @@
 use Rattle.std.proofs.Common.{vec_items, refl, arith}
 use Rattle.std.proofs.lemmas.List.{length-map}
-use Rattle.std.proofs.lemmas.Result.{err_from_is_err_and}
 use Rattle.model.specs.declared.events.Event.TheVariants.{Strike}
 use Rattle.model.proofs.Lives.{reached-more}
 use Rattle.book.specs.Seen.{seen}
@@ -9,9 +8,7 @@ use Rattle.book.proofs.Entering.{accepting, refusing, unit-struck}
 use Rattle.book.proofs.books.Book.strike.Goals as goal
 
 pub returns-in_err-place : goal.returns-in_err-place
-returns-in_err-place c =
-    let e = err_from_is_err_and c.from_residual.result c.from_residual.ensures.1 in
-    rw (e.1, e.2) (refusing (Strike c.args.code) c.args.self.now _ c.in_err-place.ensures)
+returns-in_err-place c = refusing (Strike c.args.code) c.args.self.now _ _ c.from_residual.ensures.1 c.in_err-place.ensures
 
 pub remove-requires : goal.remove-requires
 remove-requires c = omega (arith, c.in_ok-place.ensures.stands.within, length-map (vec_items c.args.self.now.units) standing, c.args.self.now.units.ok.0)

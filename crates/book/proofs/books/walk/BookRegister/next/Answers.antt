@@ -20,4 +20,4 @@ returns c =
     let us = vec_items b.units in
     let lt : b.at < length us = omega (arith, b.units.ok.0) in
     let some = next-unit us b.at c.index.result.now lt c.index.ensures in
-    record { contents = refl; units = rw some refl; ending = refl; answer = rw some (ap (λ unit. Ok (Some unit)) c.told-unit.ensures); life = lives-quiet Next quiet_next (seen b) }
+    record { contents = refl; units = rw some refl; ending = refl; answer = rw some (ap (λ unit. Ok (Some unit)) c.from-unit.ensures); life = lives-quiet Next quiet_next (seen b) }
