@@ -13,6 +13,8 @@ mod burning;
 mod emissions;
 mod parts;
 
+pub(crate) use parts::home_class;
+
 #[derive(Drop)]
 pub struct StandingUnit {
     entry: UnitEntry,

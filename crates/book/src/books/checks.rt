@@ -2,9 +2,11 @@
 ghost use Rattle.std.specs.Prelude.{◌≡◌, Err, MatchResult};
 ghost use Rattle.model.specs.declared.events.Event.TheVariants.{EnterBurn, EnterFuel, EnterUnit, Strike};
 ghost use Rattle.model.specs.Plain.{book_fault, efficiency_in_range, fuel_in_range, unit_in_range, verdict};
+ghost use Rattle.book.specs.Burns.{Fits};
 ghost use Rattle.book.specs.Seen.{seen};
 ghost use Rattle.book.specs.Standing.{TakesBurn, TakesStrike};
 
+use super::super::standing::home_class;
 use super::{Book, FUELS, UNITS};
 use model::{BookFault, Burn, BurnEntry, Day, Fault, Fuel, Layer, Rule, UnitEntry};
 
@@ -16,6 +18,7 @@ const QUANTITY: u32 = 10_000_000;
 pub(super) struct Accepted {
     pub place: usize,
     pub burn: Burn,
+    ghost fits: { Fits burn },
 }
 
 fn refusal(rule: Rule, code: u16) -> BookFault
@@ -29,23 +32,22 @@ fn refusal(rule: Rule, code: u16) -> BookFault
 fn fuel_in_range(fuel: &Fuel) -> bool
     ensures { result ≡ fuel_in_range fuel.now }
 {
-    fuel.heat_content >= 1 && fuel.heat_content <= 100_000 && fuel.carbon_factor <= 320_000
+    (1..=100_000).contains(&fuel.heat_content) && fuel.carbon_factor <= 320_000
 }
 
 // None, or 116 to 1,000 per mille.
 fn efficiency_in_range(efficiency: u16) -> bool
     ensures { result ≡ efficiency_in_range efficiency }
 {
-    efficiency == 0 || (efficiency >= 116 && efficiency <= 1_000)
+    matches!(efficiency, 0 | 116..=1_000)
 }
 
 // A home unit's class, a generation and two efficiencies.
 fn unit_in_range(entry: &UnitEntry) -> bool
     ensures { result ≡ unit_in_range entry.now }
 {
-    entry.class <= 3
-        && entry.generation >= 1
-        && entry.generation <= 100_000_000
+    home_class(entry).is_some()
+        && (1..=100_000_000).contains(&entry.generation)
         && efficiency_in_range(entry.efficiency)
         && efficiency_in_range(entry.default_efficiency)
 }

@@ -37,11 +37,11 @@ impl Register for Book {
         ensures answer { result ≡ answered (coming self.old).units (coming self.old).ending }
         ensures life { Lives Next self.old self.new }
     {
-        if self.at >= self.units.len() {
+        let Some(unit) = self.units.get(self.at) else {
             return Ok(None);
-        }
-        let unit = PowerUnit::from(&self.units[self.at]);
+        };
+        let told = PowerUnit::from(unit);
         self.at += 1;
-        Ok(Some(unit))
+        Ok(Some(told))
     }
 }

@@ -5,8 +5,8 @@ ghost use Rattle.std.specs.Option.{option_map};
 ghost use Rattle.book.specs.Burns.{lowest_of};
 ghost use Rattle.book.specs.Standing.{fraction, standing};
 
-use super::StandingUnit;
-use model::{Class, PowerUnit, Ratio};
+use super::{StandingUnit, home_class};
+use model::{PowerUnit, Ratio};
 
 impl StandingUnit {
     // The lowest carbon factor among the burns, if there are any.
@@ -62,7 +62,7 @@ impl From<&StandingUnit> for PowerUnit {
         PowerUnit {
             code: unit.entry.code,
             day: unit.entry.day,
-            class: Class::numbered(unit.entry.class).unwrap(),
+            class: home_class(&unit.entry).unwrap(),
             generation: unit.entry.generation,
             grams: unit.emission().rounded(),
             default_grams: unit.default_emission().map(|emission| emission.rounded()),

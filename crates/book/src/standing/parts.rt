@@ -1,14 +1,22 @@
 // What a unit is made of: its entry and its burns.
-ghost use Rattle.std.specs.Prelude.{◌≡◌, ◌≤◌, true, length};
+ghost use Rattle.std.specs.Prelude.{◌≡◌, ◌<◌, ◌≤◌, true, length, MatchOption};
 ghost use Rattle.std.specs.List.{All};
 ghost use Rattle.model.specs.Calendar.{is_day};
+ghost use Rattle.model.specs.Classes.{numbered_class};
 ghost use Rattle.model.specs.Plain.{unit_in_range};
 ghost use Rattle.book.specs.Burns.{Fits};
 ghost use Rattle.book.specs.Standing.{fresh, standing};
 
 use super::StandingUnit;
 use arrayvec::ArrayVec;
-use model::{Burn, UnitEntry};
+use model::{Burn, Class, UnitEntry};
+
+// The class of a home unit, if the entry's number tells one.
+pub(crate) fn home_class(entry: &UnitEntry) -> Option<Class>
+    ensures { MatchOption result (3 < entry.now.class) (λ class. (entry.now.class ≤ 3) × (numbered_class entry.now.class ≡ Some class)) }
+{
+    Class::numbered(entry.class).filter(|class| class.is_home())
+}
 
 impl StandingUnit {
     // A unit as it is entered, without burns.

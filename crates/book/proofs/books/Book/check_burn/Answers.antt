@@ -1,6 +1,5 @@
 use Rattle.std.proofs.Common.{◌≡◌, ℕ, Bool, true, false, ◌||◌, eqb, leb, length, take, Err, vec_items, sym, refl, ap, ◌∙◌, arith}
 use Rattle.std.specs.List.{AllByRecursion}
-use Rattle.std.proofs.lemmas.List.{length-map}
 use Rattle.std.proofs.lemmas.Bool.{le-ltb, ltb-false, ne_eqb, not_from_false, not_from_true, or_from}
 use Rattle.model.specs.declared.faults.Fault.{Fault}
 use Rattle.model.specs.declared.units.Burn.{Burn}
@@ -10,8 +9,8 @@ use Rattle.model.specs.Units.{Standing}
 use Rattle.model.proofs.Firsts.{first-none}
 use Rattle.model.proofs.Sounds.{fuel-fits}
 use Rattle.model.proofs.Verdicts.{accepted, refused-at}
+use Rattle.book.specs.Burns.{Fits}
 use Rattle.book.specs.Seen.{seen}
-use Rattle.book.specs.Standing.{standing}
 use Rattle.book.proofs.Read.{Found, found-unit}
 use Rattle.book.proofs.books.Book.check_burn.Goals as goal
 use Rattle.book.proofs.books.Book.check_burn.Goals.{After-index-unit, Else-burns_fuel, Else-is_full, In-Some-find_fuel}
@@ -40,10 +39,6 @@ returns-in_default c =
     ∙ refused-at (burn_checks p e) 3 past (omega arith)
     (coded e.unit e.fuel c.if-entry-eq0.false c.if-entry-eq0-2.false, (le-ltb 10000000 e.quantity c.if-entry-gt-QUANTITY.false, (unburned, tt)))
     (not_from_false _ (sym absent))
-
-pub index-unit-requires : goal.index-unit-requires
-index-unit-requires c =
-    omega (arith, c.in-Some.ensures.place.within, length-map (vec_items c.args.self.now.units) standing, c.args.self.now.units.ok.0)
 
 read : (c : After-index-unit) → Found c.args.entry.now.unit (vec_items c.args.self.now.units) c.in-Some.place c.index-unit.result.now
 read c = found-unit c.args.entry.now.unit (vec_items c.args.self.now.units) c.in-Some.place c.index-unit.result.now c.in-Some.ensures.place c.index-unit.ensures
@@ -99,10 +94,16 @@ returns-then-is_full c =
     ap Err c.refusal-then-is_full.ensures
     ∙ refused-at (burn_checks p e) 5 past (omega arith) (five at.In-Some-find_fuel (four at.Else-burns_fuel found)) full
 
+fits : (c : In-Some-find_fuel) → Fits (record { fuel = c.in-Some-find_fuel.fuel; quantity = c.args.entry.now.quantity })
+fits c =
+    let f = fuel-fits (seen c.args.self.now) c.args.self.now.reached c.args.entry.now.fuel in
+    rw (is-fuel c) record { quantity = c.if-entry-gt-QUANTITY.false; heat = f.0; carbon = f.1 }
+
 pub exceeds-requires : goal.exceeds-requires
-exceeds-requires c =
-    let fits = fuel-fits (seen c.args.self.now) c.args.self.now.reached c.args.entry.now.fuel in
-    rw (is-fuel (goal.at.exceeds-requires c).In-Some-find_fuel) record { quantity = c.if-entry-gt-QUANTITY.false; heat = fits.0; carbon = fits.1 }
+exceeds-requires c = fits (goal.at.exceeds-requires c).In-Some-find_fuel
+
+pub invariant_of-result : goal.invariant_of-result
+invariant_of-result c = record { fits = fits (goal.at.invariant_of-result c).In-Some-find_fuel }
 
 six : (c : Else-is_full) → Found c.args.entry.now.unit (vec_items c.args.self.now.units) c.in-Some.place c.index-unit.result.now → AllByRecursion (λ t. t.0 ≡ false) (take 5 (burn_checks (seen c.args.self.now) c.args.entry.now)) → AllByRecursion (λ t. t.0 ≡ false) (take 6 (burn_checks (seen c.args.self.now) c.args.entry.now))
 six c found t =

@@ -1,10 +1,7 @@
 use Rattle.std.proofs.Common.{map, set, vec_items, refl}
 use Rattle.model.specs.declared.events.Event.TheVariants.{EnterBurn}
-use Rattle.model.specs.Plain.{verdict}
 use Rattle.model.proofs.Lives as plain
 use Rattle.model.proofs.Lives.{reached-more}
-use Rattle.model.proofs.Sounds.{fuel-fits}
-use Rattle.model.proofs.Verdicts.{ok-accepted, passed-burn}
 use Rattle.book.specs.Seen.{seen}
 use Rattle.book.specs.Standing.{standing}
 use Rattle.book.proofs.Entering.{accepting, burn-entered, refusing}
@@ -13,15 +10,6 @@ use Rattle.book.proofs.books.Book.enter_burn.Goals.{After-add_burn}
 
 pub returns-in_err-accepted : goal.returns-in_err-accepted
 returns-in_err-accepted c = refusing (EnterBurn c.args.entry) c.args.self.now _ _ c.from_residual.ensures.1 c.in_err-accepted.ensures
-
-pub add_burn-requires-clause-fits : goal.add_burn-requires-clause-fits
-add_burn-requires-clause-fits c =
-    let b = c.args.self.now in
-    let e = c.args.entry in
-    let a = c.in_ok-accepted.ensures in
-    let p = passed-burn (seen b) e (ok-accepted (verdict (seen b) (EnterBurn e)) a.accepted) in
-    let fits = fuel-fits (seen b) b.reached e.fuel in
-    rw a.burn record { quantity = p.quantity; heat = fits.0; carbon = fits.1 }
 
 lives : (c : After-add_burn) → plain.Lives (EnterBurn c.args.entry) (seen c.args.self.now) (record { fuels = (seen c.args.self.now).fuels; units = map standing (set (vec_items c.args.self.now.units) c.in_ok-accepted.accepted.place c.add_burn.new.self) })
 lives c =
