@@ -20,7 +20,7 @@ const FUELS: usize = 64;
 
 const UNITS: usize = 1_000;
 
-// Room for all fuels and units is reserved when the book is made, so that no later call allocates.
+// Room for all fuels and units is reserved when the book is made, so that no later call allocates; a map would allocate at each new key.
 #[derive(Drop)]
 pub struct Book {
     // In order of entry.

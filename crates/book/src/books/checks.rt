@@ -112,17 +112,18 @@ impl Book {
         let Some(fuel) = self.find_fuel(entry.fuel) else {
             return Err(refusal(Rule::NotStanding, entry.fuel));
         };
-        let burn = Burn {
-            fuel,
-            quantity: entry.quantity,
-        };
         if unit.is_full() {
             return Err(refusal(Rule::TableFull, entry.unit));
         }
-        if unit.exceeds(&burn) {
+        let quantity = entry.quantity;
+        let accepted = Accepted {
+            place,
+            burn: Burn { fuel, quantity },
+        };
+        if unit.exceeds(&accepted.burn) {
             return Err(refusal(Rule::EmissionTooHigh, entry.unit));
         }
-        Ok(Accepted { place, burn })
+        Ok(accepted)
     }
 
     pub(super) fn check_strike(&self, code: u16) -> Result<usize, BookFault>

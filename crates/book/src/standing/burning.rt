@@ -11,7 +11,7 @@ use model::Burn;
 // The most thousandths of a gram that a unit without an efficiency may emit for each MWh.
 const MOST: u64 = 10_000_000_000;
 
-// The thousandths of a gram from a burn.
+// The thousandths of a gram from a burn. Its bounds are asked here: `burns` lends plain burns, so no type of their own could carry them.
 pub(crate) fn thousandths(burn: &Burn) -> u64
     requires { Fits burn.now }
     ensures value { result ≡ burned burn.now }
