@@ -6,8 +6,8 @@ ghost use Rattle.book.specs.Burns.{Fits};
 ghost use Rattle.book.specs.Seen.{seen};
 ghost use Rattle.book.specs.Standing.{TakesBurn, TakesStrike};
 
-use super::super::standing::home_class;
 use super::{Book, FUELS, UNITS};
+use crate::standing::home_class;
 use model::{BookFault, Burn, BurnEntry, Day, Fault, Fuel, Layer, Rule, UnitEntry};
 
 // The most fuel units in a burn.
@@ -132,9 +132,6 @@ impl Book {
         if code == 0 {
             return Err(refusal(Rule::ZeroCode, code));
         }
-        let Some(place) = self.find_unit(code) else {
-            return Err(refusal(Rule::NotStanding, code));
-        };
-        Ok(place)
+        self.find_unit(code).ok_or(refusal(Rule::NotStanding, code))
     }
 }
