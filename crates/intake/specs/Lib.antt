@@ -1,2 +1,3 @@
-pub mod Responding
 pub mod Taking
+pub mod Alone
+pub mod Responding

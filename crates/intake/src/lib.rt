@@ -5,13 +5,22 @@ mod decoding;
 
 pub use decoding::decode;
 
-mod faults;
+mod questions;
+mod refusals;
 
-pub use faults::IntakeFault;
+pub use questions::ask;
+
+mod methods;
+
+pub use methods::MethodSet;
 
 mod phases;
 
-pub use phases::{Feature, Intake, Reply};
+pub use phases::{Intake, Phase};
+
+mod averages;
+
+pub use averages::{AverageAlone, Feature};
 
 mod lines;
 

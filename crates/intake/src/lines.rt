@@ -1,10 +1,9 @@
 // The line that is printed for an answer or a refusal.
 ghost use Rattle.intake.specs.Responding.{Responds};
 
-use super::{Feature, Intake, IntakeFault, Reply};
+use super::{AverageAlone, Feature, Intake};
 use book::Book;
-use model::CombinedMargin;
-use std::error::Error;
+use model::{CombinedMargin, IntakeFault, Reply};
 use std::fmt;
 
 #[derive(Clone, Copy)]
@@ -41,38 +40,10 @@ impl fmt::Display for Line {
 pub fn respond(intake: &mut Intake, book: &mut Book, piece: &[u8]) -> Result<Option<Line>, Feature>
     ensures { Responds intake.old intake.new book.old book.new piece.now result }
 {
-    match intake.take(book, piece) {
-        Ok(reply) => match reply {
-            Reply::Entered => Ok(None),
-            Reply::Margin(margin) => Ok(Some(Line::Margin(margin))),
-            Reply::NotBuilt(feature) => Err(feature),
-        },
+    match intake.take(book, &mut AverageAlone {}, piece) {
+        Ok(Ok(Reply::Entered)) => Ok(None),
+        Ok(Ok(Reply::Margin(margin))) => Ok(Some(Line::Margin(margin))),
+        Ok(Err(feature)) => Err(feature),
         Err(refused) => Ok(Some(Line::Refused(refused))),
     }
 }
-
-impl Feature {
-    fn text(self) -> &'static str {
-        match self {
-            Feature::LoadRecords => "load records (H) are not built yet",
-            Feature::YearlyRecords => "yearly records (Y) are not built yet",
-            Feature::SimpleMethod => "the simple method (1) is not built yet",
-            Feature::AdjustedMethod => "the simple adjusted method (2) is not built yet",
-        }
-    }
-}
-
-impl fmt::Display for Feature {
-    fn fmt<W: fmt::Write>(&self, f: &mut fmt::Formatter<W>) -> fmt::Result {
-        f.write_str(self.text())
-    }
-}
-
-// A program that ends with an error shows it in this form, so that it reads as text too.
-impl fmt::Debug for Feature {
-    fn fmt<W: fmt::Write>(&self, f: &mut fmt::Formatter<W>) -> fmt::Result {
-        f.write_str(self.text())
-    }
-}
-
-impl Error for Feature {}

@@ -1,109 +1,59 @@
 // The intake gathers entries until its first question, and only answers from then on.
 ghost use Rattle.std.specs.Prelude.{◌≡◌};
-ghost use Rattle.model.specs.Faults.{new_fault};
-ghost use Rattle.intake.specs.Taking.{Asks, AsksAverage, AsksOther, Gathers, Taken, book_reply};
+ghost use Rattle.intake.specs.Taking.{Gathers, Questions, Taken};
 
-use super::decode;
-use super::faults::IntakeFault;
+use super::questions::check_day;
+use super::refusals::refusal;
+use super::{MethodSet, decode};
 use book::Book;
-use combined::combined_margin;
-use method::Average;
-use model::{BookFault, CombinedMargin, Day, Fault, Layer, Question, Record, Rule, Weights};
-use register::Register;
+use model::{IntakeFault, Layer, MethodKind, Question, Record, Rule};
 
-#[derive(Clone, Copy)]
-enum Phase {
+#[derive(Clone, Copy, PartialEq, Eq, Debug)]
+pub enum Phase {
     Gathering,
     Answering,
 }
 
-// What the engine does not do yet.
-#[derive(Clone, Copy)]
-pub enum Feature {
-    LoadRecords,
-    YearlyRecords,
-    SimpleMethod,
-    AdjustedMethod,
-}
-
-// What a record that was not refused is answered with.
-#[derive(Clone, Copy)]
-pub enum Reply {
-    Entered,
-    Margin(CombinedMargin),
-    NotBuilt(Feature),
-}
-
-#[derive(Clone, Copy)]
+#[derive(Clone, Copy, PartialEq, Eq, Debug)]
 pub struct Intake {
-    phase: Phase,
+    pub phase: Phase,
     // The number of records so far; it stays at its greatest value.
-    index: u32,
+    pub index: u32,
 }
 
-fn refusal(rule: Rule, layer: Layer, place: u32) -> IntakeFault
-    ensures { result ≡ record { fault = new_fault rule layer place } }
+fn answer<M: MethodSet>(
+    book: &mut Book,
+    methods: &M,
+    question: Question,
+) -> Result<M::Reply, IntakeFault>
+    ensures { Questions M.MethodSet.asks question book.old book.new methods.now methods.now result }
 {
-    IntakeFault {
-        fault: Fault::new(rule, layer, place),
+    match MethodKind::numbered(question.method) {
+        Some(kind) => methods.answer(kind, book, question),
+        None => {
+            check_day(book, question)?;
+            Err(refusal(Rule::OutOfRange, Layer::Intake, 0))
+        }
     }
 }
 
-fn ask_average(book: &mut Book, question: Question) -> Result<Reply, IntakeFault>
-    ensures { AsksAverage question book.old book.new result }
-{
-    let weights = Weights {
-        operating: question.operating_weight,
-        build: question.build_weight,
-    };
-    let margin = combined_margin(&Average {}, book, weights, question.reference)?;
-    Ok(Reply::Margin(margin))
-}
-
-// A question that goes to no method is checked for its day alone, and leaves the book restarted as any question does.
-fn ask_other(book: &mut Book, question: Question) -> Result<Reply, IntakeFault>
-    ensures { AsksOther question book.old book.new result }
-{
-    book.restart();
-    if Day::new(question.reference).is_none() {
-        return Err(refusal(Rule::NoSuchDay, Layer::Combined, 0));
-    }
-    match question.method {
-        1 => Ok(Reply::NotBuilt(Feature::SimpleMethod)),
-        2 => Ok(Reply::NotBuilt(Feature::AdjustedMethod)),
-        _ => Err(refusal(Rule::OutOfRange, Layer::Intake, 0)),
-    }
-}
-
-fn answer(book: &mut Book, question: Question) -> Result<Reply, IntakeFault>
-    ensures { Asks question book.old book.new result }
-{
-    if question.method == 3 {
-        ask_average(book, question)
-    } else {
-        ask_other(book, question)
-    }
-}
-
-fn enter(book: &mut Book, entry: Record) -> Result<Reply, IntakeFault>
-    ensures { Gathers entry book.old book.new result }
+fn gather<M: MethodSet>(
+    book: &mut Book,
+    methods: &mut M,
+    entry: Record,
+) -> Result<M::Reply, IntakeFault>
+    ensures { Gathers M.MethodSet.entry_reply M.MethodSet.loads M.MethodSet.pairs M.MethodSet.asks entry book.old book.new methods.old methods.new result }
 {
     match entry {
-        Record::Fuel(fuel) => entered(book.enter_fuel(fuel)),
-        Record::Unit(unit) => entered(book.enter_unit(unit)),
-        Record::Burn(burn) => entered(book.enter_burn(burn)),
-        Record::Strike(code) => entered(book.strike(code)),
-        Record::Load(_) => Ok(Reply::NotBuilt(Feature::LoadRecords)),
-        Record::Yearly(_) => Ok(Reply::NotBuilt(Feature::YearlyRecords)),
-        Record::Question(question) => answer(book, question),
+        Record::Fuel(fuel) => book.enter_fuel(fuel)?,
+        Record::Unit(unit) => book.enter_unit(unit)?,
+        Record::Burn(burn) => book.enter_burn(burn)?,
+        Record::Strike(code) => book.strike(code)?,
+        Record::Load(group) => return methods.enter_load(group),
+        Record::Yearly(pair) => return methods.enter_pair(pair),
+        Record::Question(question) => return answer(book, methods, question),
     }
-}
-
-fn entered(verdict: Result<(), BookFault>) -> Result<Reply, IntakeFault>
-    ensures { result ≡ book_reply verdict }
-{
-    verdict?;
-    Ok(Reply::Entered)
+    Ok(M::entered())
 }
 
 impl Intake {
@@ -117,21 +67,26 @@ impl Intake {
     }
 
     // Takes one piece of the stream, which is a whole record or the short last one.
-    pub fn take(&mut self, book: &mut Book, bytes: &[u8]) -> Result<Reply, IntakeFault>
-        ensures { Taken self.old self.new book.old book.new bytes.now result }
+    pub fn take<M: MethodSet>(
+        &mut self,
+        book: &mut Book,
+        methods: &mut M,
+        bytes: &[u8],
+    ) -> Result<M::Reply, IntakeFault>
+        ensures { Taken M.MethodSet.entry_reply M.MethodSet.loads M.MethodSet.pairs M.MethodSet.asks self.old self.new book.old book.new methods.old methods.new bytes.now result }
     {
         let at = self.index;
         self.index = at.saturating_add(1);
-        let Some(entry) = decode(bytes) else {
+        let Some(record) = decode(bytes) else {
             return Err(refusal(Rule::ShortOrForeignRecord, Layer::Intake, at));
         };
-        match (self.phase, entry) {
-            (_, Record::Question(question)) => {
-                self.phase = Phase::Answering;
-                answer(book, question)
+        match (self.phase, record) {
+            (_, Record::Question(_)) => self.phase = Phase::Answering,
+            (Phase::Answering, _) => {
+                return Err(refusal(Rule::AfterQuestion, Layer::Intake, at));
             }
-            (Phase::Answering, _) => Err(refusal(Rule::AfterQuestion, Layer::Intake, at)),
-            (Phase::Gathering, entry) => enter(book, entry),
+            (Phase::Gathering, _) => {}
         }
+        gather(book, methods, record)
     }
 }

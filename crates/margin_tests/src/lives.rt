@@ -1,30 +1,33 @@
 // The life of a book, packings and questions among its calls.
-use super::shared::{GRAM, HALVES, figures, grams, unit};
+use super::shared::{GRAM, HALVES, grams, unit};
 use life::{Answer, Call, live};
 use method::Average;
-use model::{Fault, Layer, Rule};
+use model::{Fault, Layer, PackingFault, Rule};
 use std::test::Fail;
 
-// The code that a `next` told, 0 for none.
-fn told(answer: &Answer) -> u16 {
-    match answer {
-        Answer::Told(Ok(Some(unit))) => unit.code,
-        _ => 0,
-    }
-}
-
-fn packed(answer: &Answer) -> Result<usize, Fault> {
-    match answer {
-        Answer::Packed(Ok(written)) => Ok(*written),
-        Answer::Packed(Err(refused)) => Err(refused.fault),
-        _ => Ok(1),
-    }
-}
-
 fn entered(answer: &Answer) -> bool {
+    matches!(answer, Answer::Entered(Ok(())))
+}
+
+// The code that a `next` told.
+fn told(answer: &Answer) -> Option<u16> {
     match answer {
-        Answer::Entered(Ok(())) => true,
-        _ => false,
+        Answer::Told(Ok(Some(unit))) => Some(unit.code),
+        _ => None,
+    }
+}
+
+fn packed(answer: &Answer) -> Option<Result<usize, PackingFault>> {
+    match answer {
+        Answer::Packed(written) => Some(*written),
+        _ => None,
+    }
+}
+
+fn combined(answer: &Answer) -> Option<u32> {
+    match answer {
+        Answer::Margin(Ok(margin)) => Some(margin.combined),
+        _ => None,
     }
 }
 
@@ -56,19 +59,26 @@ fn every_kind_of_call(rt: HostRuntime) -> Result<(), Fail> {
     assert!(rt;
         entered(&life.answers[0]) && entered(&life.answers[4]) && entered(&life.answers[12])
     );
-    assert_eq!(rt; told(&life.answers[5]), 2);
+    assert_eq!(rt; told(&life.answers[5]), Some(2));
     assert!(rt; !entered(&life.answers[6]), "the code stands");
     assert_eq!(rt;
         told(&life.answers[7]),
-        1,
+        Some(1),
         "a refused entry leaves the walk"
     );
-    assert_eq!(rt; told(&life.answers[9]), 2, "a question restarts it");
-    let short = Fault::new(Rule::BufferShort, Layer::Packing, 0);
-    assert_eq!(rt; packed(&life.answers[10]), Err(short));
-    assert_eq!(rt; told(&life.answers[11]), 2, "a refused packing restarts it");
-    assert_eq!(rt; told(&life.answers[14]), 1);
-    assert_eq!(rt; packed(&life.answers[15]), Ok(32));
+    assert_eq!(rt; told(&life.answers[9]), Some(2), "a question restarts it");
+    let fault = Fault::new(Rule::BufferShort, Layer::Packing, 0);
+    assert_eq!(rt;
+        packed(&life.answers[10]),
+        Some(Err(PackingFault { fault }))
+    );
+    assert_eq!(rt;
+        told(&life.answers[11]),
+        Some(2),
+        "a refused packing restarts it"
+    );
+    assert_eq!(rt; told(&life.answers[14]), Some(1));
+    assert_eq!(rt; packed(&life.answers[15]), Some(Ok(32)));
     assert_eq!(rt; buffer[0], b'P');
     assert_eq!(rt; buffer[32], 7, "the rest is left");
     Ok(())
@@ -88,14 +98,18 @@ fn every_answer_is_of_its_time(rt: HostRuntime) -> Result<(), Fail> {
         Call::Ask(HALVES, 20_240_630),
     ];
     let life = live(rt.alloc(), &Average {}, &calls, &mut [])?;
-    let mut combined = [0u32; 9];
-    for (at, answer) in life.answers.iter().enumerate() {
-        if let Answer::Margin(margin) = answer {
-            if at < 9 {
-                combined[at] = figures(margin)?.0[0];
-            }
-        }
-    }
-    assert_eq!(rt; combined, [0, 0, 0, 10, 0, 0, 15, 0, 20]);
+    let asked: Vec<Option<u32>> = life.answers.iter().map(combined).collect(rt.alloc())?;
+    let expected = [
+        None,
+        None,
+        None,
+        Some(10),
+        None,
+        None,
+        Some(15),
+        None,
+        Some(20),
+    ];
+    assert_eq!(rt; asked.as_slice(), expected.as_slice());
     Ok(())
 }

@@ -1,10 +1,10 @@
 // Questions through joins and imports.
-use super::shared::{GRAM, HALVES, figures, grams, unit};
+use super::shared::{GRAM, HALVES, grams, margin, unit};
 use book::Book;
 use combined::combined_margin;
 use layers::{Import, ImportEntry, Join};
 use method::Average;
-use model::Weights;
+use model::{CohortSet, Weights};
 use register::Register;
 use std::alloc::Global;
 use std::test::Fail;
@@ -14,12 +14,16 @@ use worked::{both_questions, through_layers};
 fn the_worked_example(rt: HostRuntime) -> Result<(), Fail> {
     let (first, later) = both_questions(rt.alloc())?;
     assert_eq!(rt;
-        figures(&first)?,
-        ([244_068, 244_068, 244_068], 1, (2, 0, 0))
+        first,
+        Ok(margin([244_068, 244_068, 244_068], CohortSet::Sample, (2, 0, 0)))
     );
     assert_eq!(rt;
-        figures(&later)?,
-        ([610_170, 244_068, 976_272], 2, (1, 0, 0))
+        later,
+        Ok(margin(
+            [610_170, 244_068, 976_272],
+            CohortSet::WithRegistered,
+            (1, 0, 0)
+        ))
     );
     Ok(())
 }
@@ -28,12 +32,16 @@ fn the_worked_example(rt: HostRuntime) -> Result<(), Fail> {
 fn the_worked_example_through_layers(rt: HostRuntime) -> Result<(), Fail> {
     let (first, later) = through_layers(rt.alloc())?;
     assert_eq!(rt;
-        figures(&first)?,
-        ([195_433, 168_493, 222_373], 1, (3, 0, 0))
+        first,
+        Ok(margin([195_433, 168_493, 222_373], CohortSet::Sample, (3, 0, 0)))
     );
     assert_eq!(rt;
-        figures(&later)?,
-        ([417_806, 168_493, 667_119], 2, (2, 0, 0))
+        later,
+        Ok(margin(
+            [417_806, 168_493, 667_119],
+            CohortSet::WithRegistered,
+            (2, 0, 0)
+        ))
     );
     Ok(())
 }
@@ -70,12 +78,12 @@ fn two_lived_books_and_an_import_asked_twice(rt: HostRuntime) -> Result<(), Fail
     let Ok(mut grid) = Import::new(Join::new(older, newer), entry) else {
         return Err(Fail::new("refused"));
     };
-    let expected = ([10, 20, 0], 1, (5, 0, 0));
+    let expected = Ok(margin([10, 20, 0], CohortSet::Sample, (5, 0, 0)));
     let once = combined_margin(&Average {}, &mut grid, HALVES, 20_240_630);
-    assert_eq!(rt; figures(&once)?, expected);
+    assert_eq!(rt; once, expected);
     let _ = grid.next();
     let twice = combined_margin(&Average {}, &mut grid, HALVES, 20_240_630);
-    assert_eq!(rt; figures(&twice)?, expected, "wherever the walk stood");
+    assert_eq!(rt; twice, expected, "wherever the walk stood");
     Ok(())
 }
 
@@ -87,6 +95,6 @@ fn the_operating_margin_alone(rt: HostRuntime) -> Result<(), Fail> {
         build: 0,
     };
     let answer = combined_margin(&Average {}, &mut book, alone, 20_240_630);
-    assert_eq!(rt; figures(&answer)?, ([0, 0, 0], 0, (0, 0, 0)));
+    assert_eq!(rt; answer, Ok(margin([0, 0, 0], CohortSet::Absent, (0, 0, 0))));
     Ok(())
 }

@@ -1,32 +1,17 @@
 // What the tests share.
-use model::{
-    BurnEntry, CombinedFault, CombinedMargin, Fuel, IntakeFault, Reply, UnitEntry, Weights,
-};
-use std::test::Fail;
+use model::{BurnEntry, Cohort, CohortSet, CombinedMargin, Fuel, UnitEntry, Weights};
 
-// Combined, operating and build margin, the set's number and the three counts.
-pub type Figures = ([u32; 3], u8, (u16, u16, u16));
-
-fn told(margin: &CombinedMargin) -> Figures {
-    (
-        [margin.combined, margin.operating, margin.build],
-        margin.cohort.set.number(),
-        margin.cohort.counts,
-    )
-}
-
-pub fn figures(answer: &Result<CombinedMargin, CombinedFault>) -> Result<Figures, Fail> {
-    match answer {
-        Ok(margin) => Ok(told(margin)),
-        Err(_) => Err(Fail::new("refused")),
-    }
-}
-
-// Of a reply to a question.
-pub fn figures_of(reply: &Result<Reply, IntakeFault>) -> Result<Figures, Fail> {
-    match reply {
-        Ok(Reply::Margin(margin)) => Ok(told(margin)),
-        _ => Err(Fail::new("no margin")),
+// Of combined, operating and build margin, and the cohort.
+pub fn margin(
+    [combined, operating, build]: [u32; 3],
+    set: CohortSet,
+    counts: (u16, u16, u16),
+) -> CombinedMargin {
+    CombinedMargin {
+        combined,
+        operating,
+        build,
+        cohort: Cohort { set, counts },
     }
 }
 

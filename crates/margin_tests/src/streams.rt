@@ -1,8 +1,8 @@
 // A whole stream of records, of every kind but strikes and loads, taken in one call.
-use super::shared::figures_of;
+use super::shared::margin;
 use book::Book;
-use model::{IntakeFault, Reply, Rule};
-use record_streams::{Intake, Methods};
+use model::{CohortSet, Fault, IntakeFault, Layer, Reply, Rule};
+use record_streams::{Intake, Methods, take_all};
 use std::alloc::{AllocError, Global};
 use std::test::Fail;
 
@@ -33,16 +33,9 @@ fn stream(heap: Global) -> Result<Vec<u8>, AllocError> {
     Ok(stream)
 }
 
-// The number of the rule, of the layer, and the place.
-fn refused(reply: &Result<Reply, IntakeFault>) -> (u8, u8, u32) {
-    match reply {
-        Ok(_) => (0, 0, 0),
-        Err(refused) => (
-            refused.fault.rule.number(),
-            refused.fault.layer.number(),
-            refused.fault.place,
-        ),
-    }
+fn refused(rule: Rule, layer: Layer, place: u32) -> Result<Reply, IntakeFault> {
+    let fault = Fault::new(rule, layer, place);
+    Err(IntakeFault { fault })
 }
 
 // Simple: 300 g / 10 MWh are 30. Average and build margin: 300 g / 15 MWh are 20. No load is known of any hour.
@@ -52,22 +45,31 @@ fn every_method_in_one_stream(rt: HostRuntime) -> Result<(), Fail> {
     let mut methods = Methods::new(rt.alloc())?;
     let mut intake = Intake::new();
     let mut replies = Vec::new(rt.alloc());
-    intake.take_all(&mut book, &mut methods, &stream(rt.alloc())?, &mut replies)?;
+    take_all(
+        &mut intake,
+        &mut book,
+        &mut methods,
+        &stream(rt.alloc())?,
+        &mut replies,
+    )?;
     assert_eq!(rt; replies.len(), 14);
-    for reply in replies[0..9].iter() {
-        assert!(rt; matches!(reply, Ok(Reply::Entered)));
-    }
-    let cohort = (1, (2, 0, 0));
-    assert_eq!(rt;
-        figures_of(&replies[9])?,
-        ([25, 30, 20], cohort.0, cohort.1)
+    assert!(rt;
+        replies[0..9]
+            .iter()
+            .all(|reply| *reply == Ok(Reply::Entered))
     );
-    assert_eq!(rt; refused(&replies[10]), (Rule::Missing.number(), 5, 0));
+    let by_simple = margin([25, 30, 20], CohortSet::Sample, (2, 0, 0));
+    assert_eq!(rt; replies[9], Ok(Reply::Margin(by_simple)));
+    assert_eq!(rt; replies[10], refused(Rule::Missing, Layer::LoadYear, 0));
+    let by_average = margin([20, 20, 20], CohortSet::Sample, (2, 0, 0));
+    assert_eq!(rt; replies[11], Ok(Reply::Margin(by_average)));
     assert_eq!(rt;
-        figures_of(&replies[11])?,
-        ([20, 20, 20], cohort.0, cohort.1)
+        replies[12],
+        refused(Rule::AfterQuestion, Layer::Intake, 12)
     );
-    assert_eq!(rt; refused(&replies[12]), (2, 1, 12));
-    assert_eq!(rt; refused(&replies[13]), (1, 1, 13));
+    assert_eq!(rt;
+        replies[13],
+        refused(Rule::ShortOrForeignRecord, Layer::Intake, 13)
+    );
     Ok(())
 }

@@ -20,11 +20,12 @@ use Rattle.model.specs.declared.records.Question.{Question}
 use Rattle.model.specs.declared.records.Record.{Record}
 use Rattle.model.specs.declared.records.Record.TheVariants.{Burn, Fuel, Load, Question as Asked, Strike, Unit as UnitRecord, Yearly}
 use Rattle.record_streams.specs.Feeding.{Stands, phase_of}
-use Rattle.record_streams.specs.Taking.{AsksKind, Gathers, Leaves, Questions, Taken, Takes, TakesRecord, next_phase}
+use Rattle.intake.specs.Taking.{Leaves, next_phase}
+use Rattle.record_streams.proofs.Taking.{AsksKind, Gathers, Questions, Taken, Takes, TakesRecord}
 use Rattle.record_streams.specs.declared.methods.Methods.{Methods}
-use Rattle.record_streams.specs.declared.phases.Intake.{Intake}
-use Rattle.record_streams.specs.declared.phases.Phase.{Phase}
-use Rattle.record_streams.specs.declared.phases.Phase.TheVariants.{Answering, Gathering}
+use Rattle.intake.specs.declared.phases.Intake.{Intake}
+use Rattle.intake.specs.declared.phases.Phase.{Phase}
+use Rattle.intake.specs.declared.phases.Phase.TheVariants.{Answering, Gathering}
 use Rattle.record_streams.proofs.Asking.{asked}
 use Rattle.record_streams.proofs.Standing.{Holds, enters}
 
@@ -120,7 +121,7 @@ walk-verdict : (b c : Book) (v : Result (Unit {0}) BookFault) → Changes b c v 
 walk-verdict b c (Ok x) e w = e.restarted
 walk-verdict b c (Err f) e w = rw e.refusal w
 
-walk-kind : (k : Option MethodKind) (q : Question) (b c : Book) (m : Methods) (r : Result Reply IntakeFault) → AsksKind k q b c m r → Restarted c
+walk-kind : (k : Option MethodKind) (q : Question) (b c : Book) (m : Methods) (r : Result Reply IntakeFault) → AsksKind k q m b c r → Restarted c
 walk-kind None q b c m r e = e.restarted
 walk-kind (Some Simple) q b c m r e = walk-promised b c e.promise.kept e.promise.restarted
 walk-kind (Some Adjusted) q b c m r e = walk-promised b c e.promise.kept e.promise.restarted
@@ -133,7 +134,7 @@ walk-gathered (Burn u) b c m n r e w = walk-verdict b c e.verdict e.entered.chan
 walk-gathered (Strike k) b c m n r e w = walk-verdict b c e.verdict e.entered.changes w
 walk-gathered (Load l) b c m n r e w = rw e.book w
 walk-gathered (Yearly p) b c m n r e w = rw e.book w
-walk-gathered (Asked q) b c m n r e w = walk-kind (numbered_method q.method) q b c m r e.asks
+walk-gathered (Asked q) b c m n r e w = walk-kind (numbered_method q.method) q b c m r e.asked
 
 walk-late : (t : Bool) (x : Record) (f : Fault) (b c : Book) (m n : Methods) (r : Result Reply IntakeFault)
     → MatchBool t (Gathers x b c m n r) (Leaves b c m n r (Err (record { fault = f }))) → Restarted b → Restarted c

@@ -1,20 +1,15 @@
 -- Pieces taken one after another, beside what the rules say of them.
-use Rattle.std.proofs.Common.{ℕ, List, [], ◌∷◌, ◌++◌, Result}
+use Rattle.std.proofs.Common.{ℕ, List, [], ◌∷◌, ◌++◌}
 use Rattle.std.proofs.lemmas.List.Sums.{fold-append}
 use Rattle.book.specs.Seen.{Restarted}
 use Rattle.book.specs.declared.books.Book.{Book}
 use Rattle.model.specs.Records.{record_of}
 use Rattle.model.specs.Streams.{Replies, ReplyTo, Stand, after_all, after_piece, index_after, next_index}
-use Rattle.model.specs.declared.answers.Reply.{Reply}
-use Rattle.model.specs.declared.faults.IntakeFault.{IntakeFault}
 use Rattle.record_streams.specs.Feeding.{Stands}
-use Rattle.record_streams.specs.Taking.{Taken}
+use Rattle.record_streams.proofs.Taking.{Answer, Taken}
 use Rattle.record_streams.specs.declared.methods.Methods.{Methods}
-use Rattle.record_streams.specs.declared.phases.Intake.{Intake}
+use Rattle.intake.specs.declared.phases.Intake.{Intake}
 use Rattle.record_streams.proofs.Fed.{fed, walk-taken}
-
-abbrev pub Answer : Type 0
-Answer = Result Reply IntakeFault
 
 -- what the pieces ps are answered with, and what they leave, whatever stood before them
 pub record Flows (before after : Intake) (b c : Book) (m n : Methods) (ps : List (List ℕ)) (rs : List Answer) : Type 0 where

@@ -1,3 +1,4 @@
+pub mod Taking
 pub mod Standing
 pub mod Asking
 pub mod Fed

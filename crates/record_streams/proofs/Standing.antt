@@ -13,6 +13,7 @@ use Rattle.model.specs.Operating.{pair_answer, pair_fault, pairs_after}
 use Rattle.model.specs.Plain.{Shows}
 use Rattle.model.specs.Streams.{Gathered, entry_fault, entry_reply, event_fault, is_question, put_in, refusal_of, with_event}
 use Rattle.model.specs.declared.answers.Reply.{Reply}
+use Rattle.model.specs.declared.answers.Reply.TheVariants.{Entered}
 use Rattle.model.specs.declared.events.Event.{Event}
 use Rattle.model.specs.declared.events.Event.TheVariants.{EnterBurn, EnterFuel, EnterUnit, Strike as StrikeUnit}
 use Rattle.model.specs.declared.faults.BookFault.{BookFault}
@@ -24,7 +25,9 @@ use Rattle.model.specs.declared.records.LoadGroup.{LoadGroup}
 use Rattle.model.specs.declared.records.Record.{Record}
 use Rattle.model.specs.declared.records.Record.TheVariants.{Burn, Fuel, Load, Question as Asked, Strike, Unit as UnitRecord, Yearly}
 use Rattle.model.specs.declared.records.YearlyPair.{YearlyPair}
-use Rattle.record_streams.specs.Taking.{EntersBook, EntersLoad, EntersPair, Gathers, handed_on, pairs_in, year_in}
+use Rattle.intake.specs.Taking.{EntersBook, EntersMethods, handed_on}
+use Rattle.record_streams.specs.Taking.{EntersLoad, EntersPair, pairs_in, year_in}
+use Rattle.record_streams.proofs.Taking.{Gathers}
 use Rattle.record_streams.specs.declared.methods.Methods.{Methods}
 
 -- what book and methods hold, whatever the intake's phase and index
@@ -40,13 +43,13 @@ pub record Entering (g : Gathered) (x : Record) (c : Book) (n : Methods) (r : Re
   pub left : (f : Fault) → entry_fault g x ≡ Some f → Holds g c n
 
 -- a layer's answer by its fault, handed on
-handed : {E : Type 0} (wrap : Fault → E) (fault : E → Fault) → ((f : Fault) → fault (wrap f) ≡ f) → (o : Option Fault) → handed_on fault (unless_refused wrap o tt) ≡ entry_reply o
+handed : {E : Type 0} (wrap : Fault → E) (fault : E → Fault) → ((f : Fault) → fault (wrap f) ≡ f) → (o : Option Fault) → handed_on Entered fault (unless_refused wrap o tt) ≡ entry_reply o
 handed wrap fault back None = refl
 handed wrap fault back (Some f) = ap (λ (e : Fault). Err (record { fault = e })) (back f)
 
 -- ---- entries of the book
 
-book-reply : (w : Result (Unit {0}) BookFault) → handed_on (λ (f : BookFault). f.fault) w ≡ entry_reply (refusal_of w)
+book-reply : (w : Result (Unit {0}) BookFault) → handed_on Entered (λ (f : BookFault). f.fault) w ≡ entry_reply (refusal_of w)
 book-reply (Ok x) = refl
 book-reply (Err f) = refl
 
@@ -56,7 +59,7 @@ stays b c (Ok x) f e h = let z : ◌≡◌ {A = ℕ} 0 1 = cc in absurd (omega a
 stays b c (Err y) f e h = h
 
 module _ (g : Gathered) (b c : Book) (m n : Methods) (r : Result Reply IntakeFault) (h : Holds g b m) where
-  enters-book : (v : Event) (x : Record) → entry_fault g x ≡ event_fault g v → put_in g x ≡ with_event g v → EntersBook v b c m n r → Entering g x c n r
+  enters-book : (v : Event) (x : Record) → entry_fault g x ≡ event_fault g v → put_in g x ≡ with_event g v → EntersBook Entered v b c m n r → Entering g x c n r
   enters-book v x fault put e =
       let told = e.entered.told g.journal h.book in
       record {
@@ -69,24 +72,24 @@ module _ (g : Gathered) (b c : Book) (m n : Methods) (r : Result Reply IntakeFau
 
   -- ---- groups of loads and yearly pairs
 
-  enters-load : (l : LoadGroup) → EntersLoad l b c m n r → Entering g (Load l) c n r
+  enters-load : (l : LoadGroup) → EntersMethods (EntersLoad l) b c m n r → Entering g (Load l) c n r
   enters-load l e =
-      let after : year_in n ≡ group_year year_hours (groups_after year_hours g.groups l) = e.taken.life g.groups h.groups in
+      let after : year_in n ≡ group_year year_hours (groups_after year_hours g.groups l) = e.taken.taken.life g.groups h.groups in
       let held : (gs : List LoadGroup) → groups_after year_hours g.groups l ≡ gs → Holds (record { journal = g.journal; groups = gs; pairs = g.pairs }) c n =
-      λ gs is. record { book = rw e.book h.book; groups = after ∙ ap (group_year year_hours) is; pairs = ap pairs_of e.simple ∙ h.pairs } in
+      λ gs is. record { book = rw e.book h.book; groups = after ∙ ap (group_year year_hours) is; pairs = ap pairs_of e.taken.simple ∙ h.pairs } in
       record {
-        reply = e.replied ∙ (ap (handed_on (λ (f : LoadFault). f.fault)) (e.taken.told g.groups h.groups) ∙ handed (λ f. record { fault = f }) (λ (f : LoadFault). f.fault) (λ f. refl) (group_fault year_hours g.groups l));
+        reply = e.taken.replied ∙ (ap (handed_on Entered (λ (f : LoadFault). f.fault)) (e.taken.taken.told g.groups h.groups) ∙ handed (λ f. record { fault = f }) (λ (f : LoadFault). f.fault) (λ f. refl) (group_fault year_hours g.groups l));
         taken = λ is. held (g.groups ++ l ∷ []) (ap (λ o. stands_after o (g.groups ++ l ∷ []) g.groups) is);
         left = λ f is. held g.groups (ap (λ o. stands_after o (g.groups ++ l ∷ []) g.groups) is);
       }
 
-  enters-pair : (p : YearlyPair) → EntersPair p b c m n r → Entering g (Yearly p) c n r
+  enters-pair : (p : YearlyPair) → EntersMethods (EntersPair p) b c m n r → Entering g (Yearly p) c n r
   enters-pair p e =
-      let after : pairs_in n ≡ pairs_after g.pairs p = e.pairs ∙ ap (λ ps. pairs_after ps p) h.pairs in
+      let after : pairs_in n ≡ pairs_after g.pairs p = e.taken.pairs ∙ ap (λ ps. pairs_after ps p) h.pairs in
       let held : (ps : List YearlyPair) → pairs_after g.pairs p ≡ ps → Holds (record { journal = g.journal; groups = g.groups; pairs = ps }) c n =
-      λ ps is. record { book = rw e.book h.book; groups = ap (λ (a : Adjusted LoadGroups). year_of a.year) e.adjusted ∙ h.groups; pairs = after ∙ is } in
+      λ ps is. record { book = rw e.book h.book; groups = ap (λ (a : Adjusted LoadGroups). year_of a.year) e.taken.adjusted ∙ h.groups; pairs = after ∙ is } in
       record {
-        reply = e.replied ∙ (ap (λ ps. handed_on (λ (f : MethodFault). f.fault) (pair_answer ps p)) h.pairs ∙ handed (λ f. record { fault = f }) (λ (f : MethodFault). f.fault) (λ f. refl) (pair_fault g.pairs p));
+        reply = e.taken.replied ∙ (ap (λ ps. handed_on Entered (λ (f : MethodFault). f.fault) (pair_answer ps p)) h.pairs ∙ handed (λ f. record { fault = f }) (λ (f : MethodFault). f.fault) (λ f. refl) (pair_fault g.pairs p));
         taken = λ is. held (g.pairs ++ p ∷ []) (ap (λ o. stands_after o (g.pairs ++ p ∷ []) g.pairs) is);
         left = λ f is. held g.pairs (ap (λ o. stands_after o (g.pairs ++ p ∷ []) g.pairs) is);
       }

@@ -7,9 +7,9 @@ use Rattle.model.specs.Streams.{Stand}
 use Rattle.record_streams.specs.Feeding.{Stands, phase_of}
 use Rattle.record_streams.specs.Taking.{pairs_in}
 use Rattle.record_streams.specs.declared.methods.Methods.{Methods}
-use Rattle.record_streams.specs.declared.phases.Intake.{Intake}
-use Rattle.record_streams.specs.declared.phases.Phase.{Phase}
-use Rattle.record_streams.specs.declared.phases.Phase.TheVariants.{Answering, Gathering}
+use Rattle.intake.specs.declared.phases.Intake.{Intake}
+use Rattle.intake.specs.declared.phases.Phase.{Phase}
+use Rattle.intake.specs.declared.phases.Phase.TheVariants.{Answering, Gathering}
 
 abbrev asked : Phase → Bool
 asked Gathering = false

@@ -10,9 +10,9 @@ use Rattle.model.specs.declared.answers.Reply.{Reply}
 use Rattle.model.specs.declared.faults.IntakeFault.{IntakeFault}
 use Rattle.record_streams.specs.Taking.{pairs_in, year_in}
 use Rattle.record_streams.specs.declared.methods.Methods.{Methods}
-use Rattle.record_streams.specs.declared.phases.Intake.{Intake}
-use Rattle.record_streams.specs.declared.phases.Phase.{Phase}
-use Rattle.record_streams.specs.declared.phases.Phase.TheVariants.{Answering, Gathering}
+use Rattle.intake.specs.declared.phases.Intake.{Intake}
+use Rattle.intake.specs.declared.phases.Phase.{Phase}
+use Rattle.intake.specs.declared.phases.Phase.TheVariants.{Answering, Gathering}
 
 abbrev pub phase_of : Bool → Phase
 phase_of true = Answering

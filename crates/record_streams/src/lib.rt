@@ -1,12 +1,12 @@
-// An intake of every kind of record: entries into a year book and the methods, and answers out. The program does not use it yet.
+// Every kind of record: entries into a year book and the methods, and answers out. The program does not use it yet.
 #![tactic(auto)]
+
+pub use intake::Intake;
 
 mod methods;
 
 pub use methods::Methods;
 
-mod phases;
-
-pub use phases::Intake;
-
 mod streams;
+
+pub use streams::take_all;

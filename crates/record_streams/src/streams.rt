@@ -5,31 +5,27 @@ ghost use Rattle.model.specs.declared.answers.Reply.{Reply};
 ghost use Rattle.model.specs.declared.faults.IntakeFault.{IntakeFault};
 ghost use Rattle.record_streams.specs.Feeding.{Feeds};
 
-use super::{Intake, Methods};
+use super::Methods;
 use book::Book;
-use model::{IntakeFault, Reply};
+use intake::Intake;
+use model::{IntakeFault, RECORD_SIZE, Reply};
 use std::alloc::AllocError;
 
-// The bytes of a record.
-const RECORD: usize = 32;
-
-impl Intake {
-    // Takes the pieces of the stream in order: 32 bytes each, the last may be short. Their replies are added to the list, whose
-    // room is found first, so that a want of memory leaves everything as it stood.
-    pub fn take_all(
-        &mut self,
-        book: &mut Book,
-        methods: &mut Methods,
-        stream: &[u8],
-        replies: &mut Vec<Result<Reply, IntakeFault>>,
-    ) -> Result<(), AllocError>
-        ensures taken { MatchResult result (λ _. (rs : List (Result Reply IntakeFault)) × (replies.new.items ≡ replies.old.items ++ rs) × Feeds self.old self.new book.old book.new methods.old methods.new stream.now rs) (λ _. (self.new ≡ self.old) × (book.new ≡ book.old) × (methods.new ≡ methods.old) × (replies.new.items ≡ replies.old.items)) }
-        ensures room { vec_len replies.old + length (pieces_of stream.now) ≤ vec_capacity replies.old → is_ok result ≡ true }
-    {
-        replies.reserve(stream.len().div_ceil(RECORD))?;
-        for piece in stream.chunks(RECORD) {
-            replies.push_reserved(self.take(book, methods, piece));
-        }
-        Ok(())
+// Takes the pieces of the stream in order: 32 bytes each, the last may be short. Their replies are added to the list, whose
+// room is found first, so that a want of memory leaves everything as it stood.
+pub fn take_all(
+    intake: &mut Intake,
+    book: &mut Book,
+    methods: &mut Methods,
+    stream: &[u8],
+    replies: &mut Vec<Result<Reply, IntakeFault>>,
+) -> Result<(), AllocError>
+    ensures taken { MatchResult result (λ _. (rs : List (Result Reply IntakeFault)) × (replies.new.items ≡ replies.old.items ++ rs) × Feeds intake.old intake.new book.old book.new methods.old methods.new stream.now rs) (λ _. (intake.new ≡ intake.old) × (book.new ≡ book.old) × (methods.new ≡ methods.old) × (replies.new.items ≡ replies.old.items)) }
+    ensures room { vec_len replies.old + length (pieces_of stream.now) ≤ vec_capacity replies.old → is_ok result ≡ true }
+{
+    replies.reserve(stream.len().div_ceil(RECORD_SIZE))?;
+    for piece in stream.chunks(RECORD_SIZE) {
+        replies.push_reserved(intake.take(book, methods, piece));
     }
+    Ok(())
 }

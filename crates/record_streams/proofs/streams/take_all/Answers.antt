@@ -5,8 +5,8 @@ use Rattle.model.proofs.Pieces.{pieces_none}
 use Rattle.record_streams.proofs.Cutting.{first-piece, piece-count}
 use Rattle.record_streams.proofs.Flowing.{flows-more, flows-none}
 use Rattle.record_streams.proofs.Stood.{stood}
-use Rattle.record_streams.proofs.phases.Intake.take_all.Goals as goal
-use Rattle.record_streams.proofs.phases.Intake.take_all.Goals.{In-Some}
+use Rattle.record_streams.proofs.streams.take_all.Goals as goal
+use Rattle.record_streams.proofs.streams.take_all.Goals.{In-Some}
 
 pub returns-in_err-reserve-clause-room : goal.returns-in_err-reserve-clause-room
 returns-in_err-reserve-clause-room c = λ room. absurd (omega (arith, c.in_err-reserve.ensures.full, c.div_ceil.ensures, piece-count c.args.stream.now, room))
@@ -17,7 +17,7 @@ loop-piece-init c =
     record {
       size = rw c.into_iter-piece-iterator.ensures.into_iter_gives c.chunks-piece-items.ensures.size;
       room = rw r (omega (arith, c.in_ok-reserve.ensures.ok, c.div_ceil.ensures, piece-count c.args.stream.now));
-      taken = ([], [], ap pieces_of (sym r), sym (append-nil c.reserve.new.self.items), flows-none c.args.self.now c.args.book.now c.args.methods.now);
+      taken = ([], [], ap pieces_of (sym r), sym (append-nil c.reserve.new.self.items), flows-none c.args.intake.now c.args.book.now c.args.methods.now);
     }
 
 -- the piece that came, and those still to come
@@ -57,7 +57,7 @@ returns-clause-taken c =
       record {
         replies = λ s at h. rw all (i.taken.4.replies s at h);
         stands = λ s at h. rw all (i.taken.4.stands s at h);
-        some = stood c.args.self.now c.args.book.now c.args.methods.now;
+        some = stood c.args.intake.now c.args.book.now c.args.methods.now;
         walk = i.taken.4.walk;
       },
     )
