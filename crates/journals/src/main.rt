@@ -1,11 +1,12 @@
 // A journal from standard input, carried out event by event on one year book, and a line for what each event was answered with.
 #![tactic(auto)]
 
-use anyhow::anyhow;
+use anyhow::{Context, anyhow};
 use book::Book;
 use intake::decode;
-use model::{BookFault, Event, PowerUnit, Record};
+use model::{BookFault, Event, PowerUnit, RECORD_SIZE, Record};
 use register::Register;
+use std::fmt;
 use std::io::Read;
 
 fn main(rt: HostRuntime) -> anyhow::Result<()> {
@@ -18,23 +19,23 @@ fn run(rt: &HostRuntime) -> anyhow::Result<()> {
     let mut all = Vec::new(rt.alloc());
     rt.stdin().read_to_end(&mut all)?;
     let mut book = Book::new(rt.alloc())?;
-    for piece in all.chunks(32) {
-        match event(piece) {
-            Some(Event::Next) => match book.next() {
-                Ok(unit) => tell(rt, unit)?,
+    for piece in all.chunks(RECORD_SIZE) {
+        let line = match event(piece).context("no event")? {
+            Event::Next => match book.next() {
+                Ok(came) => Line::Told(came),
                 Err(_) => return Err(anyhow!("a year book ends properly")),
             },
-            Some(other) => answer(rt, book.apply(other))?,
-            None => return Err(anyhow!("no event")),
-        }
+            other => Line::Answered(book.apply(other)),
+        };
+        rt.println(line)?;
     }
     Ok(())
 }
 
 fn event(piece: &[u8]) -> Option<Event> {
-    match piece.first().copied() {
-        Some(b'R') => Some(Event::Restart),
-        Some(b'N') => Some(Event::Next),
+    match piece {
+        [b'R', ..] => Some(Event::Restart),
+        [b'N', ..] => Some(Event::Next),
         _ => match decode(piece)? {
             Record::Fuel(fuel) => Some(Event::EnterFuel(fuel)),
             Record::Unit(unit) => Some(Event::EnterUnit(unit)),
@@ -45,33 +46,36 @@ fn event(piece: &[u8]) -> Option<Event> {
     }
 }
 
-fn answer(rt: &HostRuntime, verdict: Result<(), BookFault>) -> anyhow::Result<()> {
-    match verdict {
-        Ok(()) => println!(rt; "OK")?,
-        Err(refused) => {
-            let rule = refused.fault.rule.number();
-            let layer = refused.fault.layer.number();
-            let place = refused.fault.place;
-            println!(rt; "NO {rule:02} LAYER {layer} PLACE {place}")?;
-        }
-    }
-    Ok(())
+// What an event was answered with.
+#[derive(Clone, Copy)]
+enum Line {
+    Answered(Result<(), BookFault>),
+    Told(Option<PowerUnit>),
 }
 
-fn tell(rt: &HostRuntime, came: Option<PowerUnit>) -> anyhow::Result<()> {
-    let Some(unit) = came else {
-        println!(rt; "END")?;
-        return Ok(());
-    };
-    let code = unit.code;
-    let day = unit.day;
-    let class = unit.class.number();
-    let generation = unit.generation;
-    let grams = unit.grams;
-    print!(rt; "UNIT {code} {day} {class} {generation} {grams}")?;
-    match unit.default_grams {
-        Some(default) => println!(rt; " {default}")?,
-        None => println!(rt; " -")?,
+impl fmt::Display for Line {
+    fn fmt<W: fmt::Write>(&self, f: &mut fmt::Formatter<W>) -> fmt::Result {
+        match self {
+            Line::Answered(Ok(())) => f.write_str("OK"),
+            Line::Answered(Err(refused)) => {
+                let rule = refused.fault.rule.number();
+                let layer = refused.fault.layer.number();
+                let place = refused.fault.place;
+                write!(f, "NO {rule:02} LAYER {layer} PLACE {place}")
+            }
+            Line::Told(None) => f.write_str("END"),
+            Line::Told(Some(unit)) => {
+                let code = unit.code;
+                let day = unit.day;
+                let class = unit.class.number();
+                let generation = unit.generation;
+                let grams = unit.grams;
+                write!(f, "UNIT {code} {day} {class} {generation} {grams} ")?;
+                match unit.default_grams {
+                    Some(default) => write!(f, "{default}"),
+                    None => f.write_str("-"),
+                }
+            }
+        }
     }
-    Ok(())
 }
