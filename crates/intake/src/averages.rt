@@ -33,7 +33,7 @@ impl fmt::Display for Feature {
 
 impl Error for Feature {}
 
-#[derive(Clone, Copy)]
+#[derive(Clone, Copy, PartialEq, Eq, Debug)]
 pub struct AverageAlone {}
 
 impl MethodSet for AverageAlone {

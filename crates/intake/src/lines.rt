@@ -6,7 +6,7 @@ use book::Book;
 use model::{CombinedMargin, IntakeFault, Reply};
 use std::fmt;
 
-#[derive(Clone, Copy)]
+#[derive(Clone, Copy, PartialEq, Eq, Debug)]
 pub enum Line {
     Margin(CombinedMargin),
     Refused(IntakeFault),

@@ -1,5 +1,5 @@
 -- One record taken, beside what the rules say of it.
-use Rattle.std.proofs.Common.{◌≡◌, ℕ, true, false, List, [], ◌∷◌, ◌++◌, IfErr, Some, None, Ok, Err, Option, Result, sym, refl, ap, ◌∙◌, arith}
+use Rattle.std.proofs.Common.{◌≡◌, true, false, List, [], ◌∷◌, ◌++◌, IfErr, Some, None, Ok, Err, Option, Result, sym, refl, ap, ◌∙◌}
 use Rattle.book.specs.Seen.{seen}
 use Rattle.book.specs.declared.books.Book.{Book}
 use Rattle.load.specs.Taking.{year_of}
@@ -55,7 +55,7 @@ book-reply (Err f) = refl
 
 -- a refused event leaves the very book
 stays : (b c : Book) (w : Result (Unit {0}) BookFault) (f : Fault) → refusal_of w ≡ Some f → IfErr w (λ _. c ≡ b) → c ≡ b
-stays b c (Ok x) f e h = let z : ◌≡◌ {A = ℕ} 0 1 = cc in absurd (omega arith)
+stays b c (Ok x) f e h = cc
 stays b c (Err y) f e h = h
 
 module _ (g : Gathered) (b c : Book) (m n : Methods) (r : Result Reply IntakeFault) (h : Holds g b m) where
