@@ -22,6 +22,7 @@ abbrev pub built : Result Reply IntakeFault → Answer
 built (Ok x) = Ok (Ok x)
 built (Err f) = Err f
 
+-- Load and yearly records are not built, and change nothing.
 abbrev pub loads_alone : LoadGroup → AverageAlone → AverageAlone → Answer → Type 0
 loads_alone g m n r = (n ≡ m) × (r ≡ Ok (Err LoadRecords))
 

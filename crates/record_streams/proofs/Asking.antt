@@ -23,8 +23,8 @@ use Rattle.model.specs.declared.records.Question.{Question}
 use Rattle.model.specs.declared.records.YearlyPair.{YearlyPair}
 use Rattle.model.specs.declared.units.PowerUnit.{PowerUnit}
 use Rattle.model.proofs.Lives.{one-contents}
-use Rattle.intake.specs.Taking.{AsksBy}
-use Rattle.record_streams.proofs.Taking.{AsksKind, Questions}
+use Rattle.intake.specs.Taking.{AsksBy, AsksKind, Questions}
+use Rattle.record_streams.specs.Taking.{AsksMethod}
 use Rattle.record_streams.specs.declared.methods.Methods.{Methods}
 use Rattle.record_streams.proofs.Standing.{Holds}
 
@@ -58,7 +58,7 @@ module _ {meaning : List Listed → Verdict} {may : List Listed → ℕ → Type
   asks-by e is = record { answer = e.answer; promise = promise-at is e.promise; replied = e.replied }
 
 module _ (g : Gathered) (q : Question) (b c : Book) (m : Methods) (r : Result Reply IntakeFault) (h : Holds g b m) where
-  asks-kind : (k : Option MethodKind) → AsksKind k q m b c r → AnswerBy k g q r
+  asks-kind : (k : Option MethodKind) → AsksKind AsksMethod k q m b c r → AnswerBy k g q r
   asks-kind None e = e.replied
   asks-kind (Some Simple) e = λ p shows.
       let is = one-contents g.journal (seen b) p h.book shows in
@@ -68,13 +68,13 @@ module _ (g : Gathered) (q : Question) (b c : Book) (m : Methods) (r : Result Re
       asks-by (subst (λ (y : ℕ → Hour). AsksBy (adjusted_meaning year_hours y) (λ us a. a ≡ adjusted_answer year_hours y us) 3 false q b c r) h.groups e) is
   asks-kind (Some Average) e = λ p shows. asks-by e (one-contents g.journal (seen b) p h.book shows)
 
-  kept : (k : Option MethodKind) → AsksKind k q m b c r → seen c ≡ seen b
+  kept : (k : Option MethodKind) → AsksKind AsksMethod k q m b c r → seen c ≡ seen b
   kept None e = e.kept
   kept (Some Simple) e = same-contents e.promise.kept
   kept (Some Adjusted) e = same-contents e.promise.kept
   kept (Some Average) e = same-contents e.promise.kept
 
-  pub asked : {n : Methods} → Questions q b c m n r → AnswerBy (numbered_method q.method) g q r × Holds g c n
+  pub asked : {n : Methods} → Questions AsksMethod q b c m n r → AnswerBy (numbered_method q.method) g q r × Holds g c n
   asked e = (
     asks-kind (numbered_method q.method) e.asked,
     record { book = rw (kept (numbered_method q.method) e.asked) h.book; groups = rw e.methods h.groups; pairs = rw e.methods h.pairs },

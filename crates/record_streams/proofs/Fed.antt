@@ -20,8 +20,9 @@ use Rattle.model.specs.declared.records.Question.{Question}
 use Rattle.model.specs.declared.records.Record.{Record}
 use Rattle.model.specs.declared.records.Record.TheVariants.{Burn, Fuel, Load, Question as Asked, Strike, Unit as UnitRecord, Yearly}
 use Rattle.record_streams.specs.Feeding.{Stands, phase_of}
-use Rattle.intake.specs.Taking.{Leaves, next_phase}
-use Rattle.record_streams.proofs.Taking.{AsksKind, Gathers, Questions, Taken, Takes, TakesRecord}
+use Rattle.intake.specs.Taking.{AsksKind, Leaves, Questions, next_phase}
+use Rattle.record_streams.specs.Taking.{AsksMethod}
+use Rattle.record_streams.proofs.Taking.{Gathers, Taken, Takes, TakesRecord}
 use Rattle.record_streams.specs.declared.methods.Methods.{Methods}
 use Rattle.intake.specs.declared.phases.Intake.{Intake}
 use Rattle.intake.specs.declared.phases.Phase.{Phase}
@@ -46,7 +47,7 @@ gathered-after s x c n None q a e taken left = rw (q, a, e) (taken refl)
 gathered-after s x c n (Some f) q a e taken left = rw (q, a, e) (left f refl)
 
 -- a question is asked in both phases
-question-asked : (a : Bool) (q : Question) (at : ℕ) (b c : Book) (m n : Methods) (r : Result Reply IntakeFault) → TakesRecord (phase_of a) at (Asked q) b c m n r → Questions q b c m n r
+question-asked : (a : Bool) (q : Question) (at : ℕ) (b c : Book) (m n : Methods) (r : Result Reply IntakeFault) → TakesRecord (phase_of a) at (Asked q) b c m n r → Questions AsksMethod q b c m n r
 question-asked true q at b c m n r e = e
 question-asked false q at b c m n r e = e
 
@@ -121,7 +122,7 @@ walk-verdict : (b c : Book) (v : Result (Unit {0}) BookFault) → Changes b c v 
 walk-verdict b c (Ok x) e w = e.restarted
 walk-verdict b c (Err f) e w = rw e.refusal w
 
-walk-kind : (k : Option MethodKind) (q : Question) (b c : Book) (m : Methods) (r : Result Reply IntakeFault) → AsksKind k q m b c r → Restarted c
+walk-kind : (k : Option MethodKind) (q : Question) (b c : Book) (m : Methods) (r : Result Reply IntakeFault) → AsksKind AsksMethod k q m b c r → Restarted c
 walk-kind None q b c m r e = e.restarted
 walk-kind (Some Simple) q b c m r e = walk-promised b c e.promise.kept e.promise.restarted
 walk-kind (Some Adjusted) q b c m r e = walk-promised b c e.promise.kept e.promise.restarted

@@ -1,26 +1,18 @@
 -- What the intake makes of a record with these methods.
 use Rattle.std.proofs.Common.{ℕ, List, Option, Result}
 use Rattle.book.specs.declared.books.Book.{Book}
-use Rattle.intake.specs.Taking.{AsksKind as KindBy, Gathers as GathersBy, Questions as QuestionsBy, Taken as TakenBy, Takes as TakesBy, TakesRecord as TakesRecordBy}
+use Rattle.intake.specs.Taking.{Gathers as GathersBy, Taken as TakenBy, Takes as TakesBy, TakesRecord as TakesRecordBy}
 use Rattle.intake.specs.declared.phases.Intake.{Intake}
 use Rattle.intake.specs.declared.phases.Phase.{Phase}
 use Rattle.model.specs.declared.answers.Reply.{Reply}
 use Rattle.model.specs.declared.answers.Reply.TheVariants.{Entered}
 use Rattle.model.specs.declared.faults.IntakeFault.{IntakeFault}
-use Rattle.model.specs.declared.records.MethodKind.{MethodKind}
-use Rattle.model.specs.declared.records.Question.{Question}
 use Rattle.model.specs.declared.records.Record.{Record}
 use Rattle.record_streams.specs.Taking.{AsksMethod, EntersLoad, EntersPair}
 use Rattle.record_streams.specs.declared.methods.Methods.{Methods}
 
 abbrev pub Answer : Type 0
 Answer = Result Reply IntakeFault
-
-abbrev pub AsksKind : Option MethodKind → Question → Methods → Book → Book → Answer → Type 0
-AsksKind = KindBy AsksMethod
-
-abbrev pub Questions : Question → Book → Book → Methods → Methods → Answer → Type 0
-Questions = QuestionsBy AsksMethod
 
 abbrev pub Gathers : Record → Book → Book → Methods → Methods → Answer → Type 0
 Gathers = GathersBy Entered EntersLoad EntersPair AsksMethod

@@ -41,6 +41,7 @@ pub record EntersPair (p : YearlyPair) (m n : Methods) (r : Result Reply IntakeF
   pub adjusted : n.adjusted ≡ m.adjusted
   pub replied : r ≡ handed_on Entered (λ (f : MethodFault). f.fault) (pair_answer (pairs_in m) p)
 
+-- A question by a method, with what it has taken in.
 abbrev pub AsksMethod : MethodKind → Question → Methods → Book → Book → Result Reply IntakeFault → Type 0
 AsksMethod Simple q m b c r = AsksBy (simple_meaning (pairs_in m)) (λ us a. a ≡ simple_answer us) 2 false q b c r
 AsksMethod Adjusted q m b c r = AsksBy (adjusted_meaning year_hours (year_in m)) (λ us a. a ≡ adjusted_answer year_hours (year_in m) us) 3 false q b c r
