@@ -16,7 +16,7 @@ impl fmt::Display for Line {
     fn fmt<W: fmt::Write>(&self, f: &mut fmt::Formatter<W>) -> fmt::Result {
         match self {
             Line::Margin(margin) => {
-                let set = margin.cohort.set.number();
+                let set = u8::from(margin.cohort.set);
                 let (kept, registered, back) = margin.cohort.counts;
                 let combined = margin.combined;
                 let operating = margin.operating;
@@ -27,8 +27,8 @@ impl fmt::Display for Line {
                 )
             }
             Line::Refused(refused) => {
-                let rule = refused.fault.rule.number();
-                let layer = refused.fault.layer.number();
+                let rule = u8::from(refused.fault.rule);
+                let layer = u8::from(refused.fault.layer);
                 let place = refused.fault.place;
                 write!(f, "NO {rule:02} LAYER {layer} PLACE {place:010}")
             }

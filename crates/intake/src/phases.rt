@@ -28,9 +28,9 @@ fn answer<M: MethodSet>(
 ) -> Result<M::Reply, IntakeFault>
     ensures { Questions M.MethodSet.asks question book.old book.new methods.now methods.now result }
 {
-    match MethodKind::numbered(question.method) {
-        Some(kind) => methods.answer(kind, book, question),
-        None => {
+    match MethodKind::try_from(question.method) {
+        Ok(kind) => methods.answer(kind, book, question),
+        Err(_) => {
             check_day(book, question)?;
             Err(refusal(Rule::OutOfRange, Layer::Intake, 0))
         }

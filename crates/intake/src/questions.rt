@@ -11,7 +11,7 @@ use register::Register;
 
 // The margin that the method answers the question with.
 pub fn ask<M: Method>(method: &M, book: &mut Book, question: Question) -> Result<Reply, IntakeFault>
-    ensures { AsksBy (M.Method.meaning method.now) (M.Method.may method.now) M.Method.halves M.Method.alone question book.old book.new result }
+    ensures { AsksBy (M.Method.meaning method.now) (M.Method.may method.now) M.Method.DISTANCE M.Method.STANDS_ALONE question book.old book.new result }
 {
     let weights = Weights {
         operating: question.operating_weight,

@@ -58,8 +58,8 @@ impl fmt::Display for Line {
         match self {
             Line::Answered(Ok(())) => f.write_str("OK"),
             Line::Answered(Err(refused)) => {
-                let rule = refused.fault.rule.number();
-                let layer = refused.fault.layer.number();
+                let rule = u8::from(refused.fault.rule);
+                let layer = u8::from(refused.fault.layer);
                 let place = refused.fault.place;
                 write!(f, "NO {rule:02} LAYER {layer} PLACE {place}")
             }
@@ -67,7 +67,7 @@ impl fmt::Display for Line {
             Line::Told(Some(unit)) => {
                 let code = unit.code;
                 let day = unit.day;
-                let class = unit.class.number();
+                let class = u8::from(unit.class);
                 let generation = unit.generation;
                 let grams = unit.grams;
                 write!(f, "UNIT {code} {day} {class} {generation} {grams} ")?;
