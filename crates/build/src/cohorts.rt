@@ -1,7 +1,6 @@
 // The build cohort: the sample run, or what takes its place where units of it are old.
 ghost use Rattle.std.specs.Prelude.{◌≡◌};
-ghost use Rattle.model.specs.Course.{told_course};
-ghost use Rattle.model.specs.History.{listed};
+ghost use Rattle.model.specs.History.{Rewound, listed};
 ghost use Rattle.build.specs.Cohorts.{walked_cohort};
 
 use super::kinds::Kind;
@@ -12,8 +11,7 @@ use register::Register;
 
 // The cohort of the register's list. It leaves the register restarted.
 pub(crate) fn cohort<R: Register>(register: &mut R, reference: u32) -> Result<Cohort, BuildFault>
-    ensures contents { R.Register.contents register.new ≡ R.Register.contents register.old }
-    ensures restarted { R.Register.coming register.new ≡ told_course (listed (R.Register.contents register.old)) }
+    ensures left { Rewound (R.Register.contents register.old) (R.Register.contents register.new) (R.Register.coming register.new) }
     ensures answer { result ≡ walked_cohort reference (listed (R.Register.contents register.old)) }
 {
     let all = walk_run(register, reference, Quota::all())?.all;

@@ -1,8 +1,7 @@
 // The build margin: the cohort's grams over its generation, rounded.
 ghost use Rattle.std.specs.Prelude.{◌≡◌, ◌*◌, ◌≤◌};
 ghost use Rattle.model.specs.Cohort.{built};
-ghost use Rattle.model.specs.Course.{told_course};
-ghost use Rattle.model.specs.History.{listed};
+ghost use Rattle.model.specs.History.{Rewound, listed};
 ghost use Rattle.build.specs.Margins.{mean_of};
 
 use super::cohorts::cohort;
@@ -29,8 +28,7 @@ pub fn build_margin<R: Register>(
     register: &mut R,
     reference: Day,
 ) -> Result<BuildMargin, BuildFault>
-    ensures contents { R.Register.contents register.new ≡ R.Register.contents register.old }
-    ensures restarted { R.Register.coming register.new ≡ told_course (listed (R.Register.contents register.old)) }
+    ensures left { Rewound (R.Register.contents register.old) (R.Register.contents register.new) (R.Register.coming register.new) }
     ensures answer { result ≡ built reference.number (listed (R.Register.contents register.old)) }
 {
     let day = reference.number();

@@ -1,7 +1,6 @@
 // The members of a cohort, and what they add up to.
 ghost use Rattle.std.specs.Prelude.{◌≡◌, ◌≤◌, IfOk, Ok};
-ghost use Rattle.model.specs.Course.{told_course};
-ghost use Rattle.model.specs.History.{listed};
+ghost use Rattle.model.specs.History.{Rewound, listed};
 ghost use Rattle.register.specs.Folds.{AtMost};
 ghost use Rattle.build.specs.Members.{Roomy, grams_of, member_step, no_sums, one_less, walked_sums, with_member};
 ghost use Rattle.std.proofs.Common.{rules};
@@ -109,8 +108,7 @@ pub(crate) fn walk_members<R: Register>(
     reference: u32,
     cohort: Cohort,
 ) -> Result<Sums, BuildFault>
-    ensures contents { R.Register.contents register.new ≡ R.Register.contents register.old }
-    ensures restarted { R.Register.coming register.new ≡ told_course (listed (R.Register.contents register.old)) }
+    ensures left { Rewound (R.Register.contents register.old) (R.Register.contents register.new) (R.Register.coming register.new) }
     ensures small { IfOk result (λ s. Roomy s 4000) }
     ensures answer { result ≡ walked_sums reference cohort (listed (R.Register.contents register.old)) }
 {

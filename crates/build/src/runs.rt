@@ -1,7 +1,6 @@
 // Runs: units of one kind that join in the register's order, until there are enough.
 ghost use Rattle.std.specs.Prelude.{◌≡◌, ◌+◌, ◌<◌, ◌≤◌, IfOk, Ok};
-ghost use Rattle.model.specs.Course.{told_course};
-ghost use Rattle.model.specs.History.{listed};
+ghost use Rattle.model.specs.History.{Rewound, listed};
 ghost use Rattle.build.specs.Runs.{Small, grow_step, grown, met_by, no_run, walked_run, with_unit};
 ghost use Rattle.std.proofs.Common.{rules};
 
@@ -144,8 +143,7 @@ pub(crate) fn walk_run<R: Register>(
     reference: u32,
     quota: Quota,
 ) -> Result<Run, BuildFault>
-    ensures contents { R.Register.contents register.new ≡ R.Register.contents register.old }
-    ensures restarted { R.Register.coming register.new ≡ told_course (listed (R.Register.contents register.old)) }
+    ensures left { Rewound (R.Register.contents register.old) (R.Register.contents register.new) (R.Register.coming register.new) }
     ensures small { IfOk result (λ s. Small s 4000) }
     ensures answer { result ≡ walked_run reference quota (listed (R.Register.contents register.old)) }
 {

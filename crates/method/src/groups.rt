@@ -1,7 +1,7 @@
 // Grams and generation of the low-cost units and of the others, by one walk.
 ghost use Rattle.std.specs.Prelude.{◌≡◌, ℕ, ◌+◌, ◌*◌, ◌≤◌, IfSome, IfOk, Ok, Err};
-ghost use Rattle.model.specs.Course.{if_walked, told_course};
-ghost use Rattle.model.specs.History.{listed};
+ghost use Rattle.model.specs.Course.{if_walked};
+ghost use Rattle.model.specs.History.{Rewound, listed};
 ghost use Rattle.model.specs.declared.faults.Layer.TheVariants.{Method};
 ghost use Rattle.method.specs.Groups.{Small, group_sums, mean_of, nothing, stepped};
 ghost use Rattle.std.proofs.Common.{rules};
@@ -46,8 +46,7 @@ impl Fold for GroupSums {
 // Grams and generation of the low-cost units, then of the others. Leaves the register restarted. (Tuples, and no struct that
 // keeps `small`: a rule of the project.)
 pub fn group_sums<R: Register>(register: &mut R) -> Result<((u64, u64), (u64, u64)), RegisterFault>
-    ensures contents { R.Register.contents register.new ≡ R.Register.contents register.old }
-    ensures restarted { R.Register.coming register.new ≡ told_course (listed (R.Register.contents register.old)) }
+    ensures left { Rewound (R.Register.contents register.old) (R.Register.contents register.new) (R.Register.coming register.new) }
     ensures answer { result ≡ if_walked Method (listed (R.Register.contents register.old)) (Ok (group_sums (listed (R.Register.contents register.old)).units)) (λ f. Err (record { fault = f })) }
     ensures small { IfOk result (λ s. (s.0.1 + s.1.1 ≤ 400000000000) × (s.0.0 ≤ 10000000 * s.0.1) × (s.1.0 ≤ 10000000 * s.1.1)) }
 {

@@ -2,9 +2,9 @@
 #![tactic(auto)]
 
 ghost use Rattle.std.specs.Prelude.{◌≡◌, ℕ, ◌≤◌, Bool, List, [], length};
-ghost use Rattle.model.specs.Course.{limit, told_course};
+ghost use Rattle.model.specs.Course.{limit};
 ghost use Rattle.model.specs.Fraction.{Frac, Within, ratio};
-ghost use Rattle.model.specs.History.{listed};
+ghost use Rattle.model.specs.History.{Rewound, listed};
 ghost use Rattle.model.specs.Shares.{Fair, Meets, Verdict, exact, judged, shares};
 ghost use Rattle.model.specs.Units.{Falling, Listed, Ranged};
 
@@ -30,8 +30,7 @@ pub trait Method {
 
     // Refuses exactly as the meaning says; over a list that ends in a fault or has more than 4,000 units, with that fault.
     fn operating_margin<R: Register>(&self, register: &mut R) -> Result<u32, MethodFault>
-        ensures contents { R.Register.contents register.new ≡ R.Register.contents register.old }
-        ensures restarted { R.Register.coming register.new ≡ told_course (listed (R.Register.contents register.old)) }
+        ensures left { Rewound (R.Register.contents register.old) (R.Register.contents register.new) (R.Register.coming register.new) }
         ensures answer { Meets (judged (meaning self.now) (listed (R.Register.contents register.old))) (may self.now (listed (R.Register.contents register.old)).units) result };
 
     ghost fair: { (m : Self) (us : List Listed) (ss : List Frac) → Ranged us → Falling us → length us ≤ limit → meaning m us ≡ shares ss → Fair ss us };

@@ -2,10 +2,11 @@
 use Rattle.std.specs.Prelude.{◌≡◌, List}
 use Rattle.std.specs.List.Sorted.{IsPermutation}
 use Rattle.model.specs.declared.events.Event.{Event}
-use Rattle.model.specs.Course.{Course}
+use Rattle.model.specs.Course.{Course, told_course}
 use Rattle.model.specs.Merge.{ImportOf, imported, merged_course, with_last}
 use Rattle.model.specs.Plain.{Contents, Ordered, Reached, Shows, after, book_course}
 use Rattle.model.specs.Units.{Listed, Standing}
+use Rattle.model.specs.declared.units.PowerUnit.{PowerUnit}
 
 -- What a register is made of: year books, joins and imports, or any other kind of register, of which nothing is known but its list and how that ends.
 pub data Composition : Type 0 where
@@ -60,3 +61,8 @@ Carried = (h : History) (p : Composition) → Lived h p → Told h (listed p)
 -- Some history led to the register.
 abbrev pub SomeHistory : Composition → Type 0
 SomeHistory p = ∥ ((h : History) × Lived h p) ∥₁
+
+-- What a walk leaves of a register, refused or not: all that it is made of, and the whole list still to come.
+pub record Rewound (before after : Composition) (coming : Course PowerUnit) : Type 0 where
+  pub contents : after ≡ before
+  pub restarted : coming ≡ told_course (listed before)

@@ -1,7 +1,7 @@
 // Packing: one P record for each unit of a register, into the caller's buffer.
 ghost use Rattle.std.specs.Prelude.{◌≡◌, ◌*◌, ◌≤◌, ◌++◌, map, length, take, drop, IfOk};
 ghost use Rattle.model.specs.Course.{proper, tail, told_course};
-ghost use Rattle.model.specs.History.{listed};
+ghost use Rattle.model.specs.History.{Rewound, listed};
 ghost use Rattle.model.specs.Packed.{flag_of, packed_buffer, packed_bytes, packed_course, packed_record, packing_answer};
 ghost use Rattle.model.specs.Units.{told};
 ghost use Rattle.packed.specs.Reading.{first_unit};
@@ -71,8 +71,7 @@ fn write<R: Register>(register: &mut R, buffer: &mut [u8])
 // Packs the register's units, and tells the bytes written; the rest of the buffer is left. Refused it leaves the whole
 // buffer. The register is left restarted. Read as a packed register, the bytes written tell the same units again.
 pub fn pack<R: Register>(register: &mut R, buffer: &mut [u8]) -> Result<usize, PackingFault>
-    ensures contents { R.Register.contents register.new ≡ R.Register.contents register.old }
-    ensures restarted { R.Register.coming register.new ≡ told_course (listed (R.Register.contents register.old)) }
+    ensures left { Rewound (R.Register.contents register.old) (R.Register.contents register.new) (R.Register.coming register.new) }
     ensures answer { result ≡ packing_answer (listed (R.Register.contents register.old)) (length buffer.old) }
     ensures buffer { buffer.new ≡ packed_buffer result (listed (R.Register.contents register.old)) buffer.old }
     ensures back { IfOk result (λ n. told_course (packed_course (take n buffer.new)) ≡ record { units = map told (listed (R.Register.contents register.old)).units; ending = proper }) }

@@ -1,8 +1,8 @@
 // The one walk over a register, for every sum, count and scan.
 ghost use Rattle.std.specs.Prelude.{◌≡◌, ℕ, ◌+◌, ◌<◌, ◌≤◌, map, length, take, IfOk, Ok, Err, fold as folded};
 ghost use Rattle.std.specs.List.{AllByRecursion};
-ghost use Rattle.model.specs.Course.{if_walked, told_course};
-ghost use Rattle.model.specs.History.{listed};
+ghost use Rattle.model.specs.Course.{if_walked};
+ghost use Rattle.model.specs.History.{Rewound, listed};
 ghost use Rattle.model.specs.Units.{told};
 ghost use Rattle.model.specs.declared.units.PowerUnit.{PowerUnit};
 ghost use Rattle.register.specs.Folds.{Cap, Counted, Room};
@@ -85,8 +85,7 @@ pub fn walk<R: Register, F: Fold>(
     layer: Layer,
     fold: &mut F,
 ) -> Result<u32, RegisterFault>
-    ensures contents { R.Register.contents register.new ≡ R.Register.contents register.old }
-    ensures restarted { R.Register.coming register.new ≡ told_course (listed (R.Register.contents register.old)) }
+    ensures left { Rewound (R.Register.contents register.old) (R.Register.contents register.new) (R.Register.coming register.new) }
     ensures answer { result ≡ if_walked layer (listed (R.Register.contents register.old)) (Ok (length (listed (R.Register.contents register.old)).units)) (λ f. Err (record { fault = f })) }
     ensures folded { fold.new ≡ folded F.Fold.step (F.Fold.cleared fold.old) (take 4000 (map told (listed (R.Register.contents register.old)).units)) }
     ensures fits { IfOk result (λ n. F.Fold.fits fold.new n) }

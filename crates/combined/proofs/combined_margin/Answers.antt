@@ -32,7 +32,7 @@ returns-in_err-walk g c =
     let e = c.in_err-walk.ensures in
     rw p.1
     (by-walk (g.M.Method.meaning m) (g.M.Method.may m) g.M.Method.DISTANCE g.M.Method.STANDS_ALONE w.operating w.build c.args.reference _ _ _ alive
-    (e.contents ∙ a) (restart-moved a e.restarted)
+    (e.left.contents ∙ a) (restart-moved a e.left.restarted)
     c.in_ok-day.ensures.2
     c.in_err-walk.field-0.0 p.0 p.2 (walk-moved a e.answer))
 
@@ -45,10 +45,10 @@ returns-in_err-operating g c =
     let a = c.restart.ensures.contents in
     let v = c.in_ok-walk.ensures in
     let e = c.in_err-operating.ensures in
-    let b = v.contents ∙ a in
+    let b = v.left.contents ∙ a in
     rw p.1
     (by-method (g.M.Method.meaning m) (g.M.Method.may m) g.M.Method.DISTANCE g.M.Method.STANDS_ALONE w.operating w.build c.args.reference _ _ _ alive
-    (e.contents ∙ b) (restart-moved b e.restarted)
+    (e.left.contents ∙ b) (restart-moved b e.left.restarted)
     c.in_ok-day.ensures.2
     (walked _ _ (walk-moved a v.answer))
     c.in_err-operating.field-0.0 p.0 p.2 (meets-moved b (g.M.Method.meaning m) (g.M.Method.may m) _ e.answer))
@@ -63,12 +63,12 @@ returns-in_err-build g c =
     let v = c.in_ok-walk.ensures in
     let o = c.in_ok-operating.ensures in
     let e = c.in_err-build.ensures in
-    let b = v.contents ∙ a in
-    let d = o.contents ∙ b in
+    let b = v.left.contents ∙ a in
+    let d = o.left.contents ∙ b in
     let q = c.in_ok-day.ensures in
     rw p.1
     (by-build (g.M.Method.meaning m) (g.M.Method.may m) g.M.Method.DISTANCE g.M.Method.STANDS_ALONE w.operating w.build c.args.reference _ _ _ alive
-    (e.contents ∙ d) (restart-moved d (e.restarted (restart-moved (sym o.contents) o.restarted)))
+    (e.contents ∙ d) (restart-moved d (e.restarted (restart-moved (sym o.left.contents) o.left.restarted)))
     q.2
     (walked _ _ (walk-moved a v.answer))
     c.in_ok-operating.operating (meets-moved b (g.M.Method.meaning m) (g.M.Method.may m) _ o.answer)
@@ -86,14 +86,14 @@ returns g c =
     let v = c.in_ok-walk.ensures in
     let o = c.in_ok-operating.ensures in
     let e = c.in_ok-build.ensures in
-    let b = v.contents ∙ a in
-    let d = o.contents ∙ b in
+    let b = v.left.contents ∙ a in
+    let d = o.left.contents ∙ b in
     let q = c.in_ok-day.ensures in
     let list = listed (g.R.Register.contents register) in
     let all = walked list _ (walk-moved a v.answer) in
     let figure = rw c.unwrap-combined.ensures at c.weighted_mean.ensures in
     answered-whole (g.M.Method.meaning m) (g.M.Method.may m) g.M.Method.DISTANCE g.M.Method.STANDS_ALONE w.operating w.build c.args.reference _ _ _ alive
-    (e.contents ∙ d) (restart-moved d (e.restarted (restart-moved (sym o.contents) o.restarted)))
+    (e.contents ∙ d) (restart-moved d (e.restarted (restart-moved (sym o.left.contents) o.left.restarted)))
     q.2 all
     c.in_ok-operating.operating (meets-moved b (g.M.Method.meaning m) (g.M.Method.may m) _ o.answer)
     c.in_ok-build.build c.unwrap-combined.result
