@@ -1,6 +1,8 @@
 // Records from standard input, a line for each answer and each refusal to standard output.
 #![tactic(auto)]
 
+ghost use Rattle.std.specs.Prelude.{◌≤◌, length, IfOk};
+
 use book::Book;
 use intake::{Intake, respond};
 use model::RECORD_SIZE;
@@ -34,7 +36,9 @@ fn run(rt: &HostRuntime) -> anyhow::Result<()> {
 
 // Reads until the buffer is full or the input ends, and gives the piece that came. It counts the bytes, since `read_exact` does
 // not tell how many came of a short last piece.
-fn fill<'a, R: Read>(input: &mut R, buffer: &'a mut [u8; RECORD_SIZE]) -> io::Result<&'a [u8]> {
+fn fill<'a, R: Read>(input: &mut R, buffer: &'a mut [u8; RECORD_SIZE]) -> io::Result<&'a [u8]>
+    ensures { IfOk result (λ piece. length piece.now ≤ 32) }
+{
     let mut filled = 0;
     while filled < RECORD_SIZE {
         let came = input.read(&mut buffer[filled..])?;
