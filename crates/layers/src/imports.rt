@@ -10,14 +10,8 @@ ghost use Rattle.model.proofs.Lasting.{ranged-last, falling-last};
 ghost use Rattle.layers.specs.Imported.{imported-ranged};
 ghost use Rattle.std.proofs.Common.{rules, arith};
 
-use model::{Class, Fault, Layer, PowerUnit, RegisterFault, Rule};
+use model::{Class, Fault, Layer, MOST_EMISSION, MOST_GENERATION, PowerUnit, RegisterFault, Rule};
 use register::Register;
-
-// In MWh.
-const MOST_GENERATION: u32 = 100_000_000;
-
-// In g/MWh.
-const MOST_FACTOR: u32 = 10_000_000;
 
 // The numbers of an import as they are asked for; `Import::new` refuses those that are out of range.
 #[derive(Clone, Copy, PartialEq, Eq, Debug)]
@@ -57,7 +51,7 @@ impl ImportEntry {
         if self.code == 0 {
             return Err(self.refusal(Rule::ZeroCode));
         }
-        if self.generation < 1 || self.generation > MOST_GENERATION || self.factor > MOST_FACTOR {
+        if self.generation < 1 || self.generation > MOST_GENERATION || self.factor > MOST_EMISSION {
             return Err(self.refusal(Rule::OutOfRange));
         }
         Ok(())

@@ -23,7 +23,7 @@ pub use ratios::Ratio;
 
 mod units;
 
-pub use units::{Burn, BurnEntry, Fuel, PowerUnit, UnitEntry};
+pub use units::{Burn, BurnEntry, Fuel, MOST_EMISSION, MOST_GENERATION, PowerUnit, UnitEntry};
 
 mod events;
 

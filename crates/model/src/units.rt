@@ -1,6 +1,12 @@
 // Fuels, units and burns as they are entered, and a unit as a register tells it.
 use super::Class;
 
+// The most that a unit generates, in MWh.
+pub const MOST_GENERATION: u32 = 100_000_000;
+
+// The most that it emits for each MWh, in grams.
+pub const MOST_EMISSION: u32 = 10_000_000;
+
 #[derive(Clone, Copy, PartialEq, Eq, Debug, Default)]
 pub struct Fuel {
     pub code: u16,

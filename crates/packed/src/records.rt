@@ -4,12 +4,10 @@ ghost use Rattle.model.specs.Packed.{day_fits, emits_too_much, numbers_fit, pack
 ghost use Rattle.model.specs.Units.{told};
 ghost use Rattle.packed.specs.Reading.{read_as};
 
-use model::{Class, Day, Fault, Layer, PowerUnit, RecordBytes, RegisterFault, Rule};
-
-const MOST_GENERATION: u32 = 100_000_000;
-
-// In grams for each MWh.
-const MOST_EMISSION: u64 = 10_000_000;
+use model::{
+    Class, Day, Fault, Layer, MOST_EMISSION, MOST_GENERATION, PowerUnit, RecordBytes,
+    RegisterFault, Rule,
+};
 
 fn refusal(rule: Rule, index: u32) -> RegisterFault
     ensures { result.fault ≡ packed_fault rule index }
@@ -52,7 +50,7 @@ fn numbers_fit(bytes: &RecordBytes<'_>) -> bool
 fn emits_too_much(bytes: &RecordBytes<'_>) -> bool
     ensures { result ≡ emits_too_much bytes.now.bytes.now }
 {
-    let most = MOST_EMISSION * u64::from(bytes.long(8));
+    let most = u64::from(MOST_EMISSION) * u64::from(bytes.long(8));
     bytes.huge(16) > most || bytes.huge(24) > most
 }
 

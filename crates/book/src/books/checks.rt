@@ -8,7 +8,9 @@ ghost use Rattle.book.specs.Standing.{TakesBurn, TakesStrike};
 
 use super::{Book, FUELS, UNITS};
 use crate::standing::home_class;
-use model::{BookFault, Burn, BurnEntry, Day, Fault, Fuel, Layer, Rule, UnitEntry};
+use model::{
+    BookFault, Burn, BurnEntry, Day, Fault, Fuel, Layer, MOST_GENERATION, Rule, UnitEntry,
+};
 
 // The most fuel units in a burn.
 const QUANTITY: u32 = 10_000_000;
@@ -47,7 +49,7 @@ fn unit_in_range(entry: &UnitEntry) -> bool
     ensures { result ≡ unit_in_range entry.now }
 {
     home_class(entry).is_some()
-        && (1..=100_000_000).contains(&entry.generation)
+        && (1..=MOST_GENERATION).contains(&entry.generation)
         && efficiency_in_range(entry.efficiency)
         && efficiency_in_range(entry.default_efficiency)
 }

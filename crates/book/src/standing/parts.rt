@@ -15,7 +15,9 @@ use model::{Burn, Class, UnitEntry};
 pub(crate) fn home_class(entry: &UnitEntry) -> Option<Class>
     ensures { MatchOption result (3 < entry.now.class) (λ class. (entry.now.class ≤ 3) × (numbered_class entry.now.class ≡ Some class)) }
 {
-    Class::try_from(entry.class).ok().filter(|class| class.is_home())
+    Class::try_from(entry.class)
+        .ok()
+        .filter(|class| class.is_home())
 }
 
 impl StandingUnit {
