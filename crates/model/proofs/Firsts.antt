@@ -1,9 +1,8 @@
 -- The first element that passes a test.
 use Rattle.std.proofs.Common.{◌≡◌, ℕ, zero, suc, ◌+◌, ◌<◌, ◌≤◌, Bool, true, false, cond, List, [], ◌∷◌, ◌++◌, length, get_or, take, sum_by, count_by, sym, refl, ap, ◌∙◌, inl, inr, arith}
-use Rattle.std.proofs.lemmas.List.{take_all}
-use Rattle.std.proofs.lemmas.List.Sums.{count_by_more_no, sum_by-append, sum_by-cons, get_or-le-sum_by}
-use Rattle.std.proofs.lemmas.Bool.{cases_Bool, cases_eq, le-ltb, lt-ltb}
-use Rattle.model.specs.Plain.{any, first_by}
+use Rattle.std.proofs.lemmas.List.Sums.{sum_by-append, sum_by-cons, get_or-le-sum_by}
+use Rattle.std.proofs.lemmas.Bool.{cases_Bool, cases_eq}
+use Rattle.model.specs.Plain.{first_by}
 use Rattle.model.proofs.Rearranged.{Same, Tells, counted, parted}
 
 -- what a count says of a first element
@@ -75,12 +74,3 @@ first-same tells p d xs ys s once =
     ]
 
 -- ---- a loop that looks for the first
-
-pub search-more : {A : Type 0} (p : A → Bool) (xs : List A) (i : ℕ) (d : A) → i < length xs → p (get_or xs i d) ≡ false → count_by p (take i xs) ≡ 0 → count_by p (take (i + 1) xs) ≡ 0
-search-more p xs i d l f none = count_by_more_no p xs i d l f ∙ none
-
-pub search-found : {A : Type 0} (p : A → Bool) (xs : List A) (i : ℕ) (d : A) → i < length xs → p (get_or xs i d) ≡ true → true ≡ any p xs
-search-found p xs i d l t = sym (lt-ltb 0 (count_by p xs) (grind (arith, get_or-le-sum_by (λ x. cond (p x) 1 0) xs i d l, t)))
-
-pub search-none : {A : Type 0} (p : A → Bool) (xs : List A) (i : ℕ) → length xs ≤ i → count_by p (take i xs) ≡ 0 → false ≡ any p xs
-search-none p xs i l none = sym (le-ltb 0 (count_by p xs) (omega (arith, ap (count_by p) (take_all i xs l), none)))

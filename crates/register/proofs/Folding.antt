@@ -1,6 +1,5 @@
 -- The loop of a walk: the units taken so far, and those still to come.
-use Rattle.std.proofs.Common.{◌≡◌, ℕ, ◌+◌, ◌-◌, ◌*◌, ◌<◌, ◌≤◌, List, [], ◌∷◌, map, length, take, min, Some, None, Ok, Err, fold, Option, Result, sym, refl, ap, ◌∙◌, add-one, arith}
-use lib.Seq.{take-nil}
+use Rattle.std.proofs.Common.{◌≡◌, ℕ, ◌+◌, ◌-◌, ◌*◌, ◌<◌, ◌≤◌, List, [], ◌∷◌, map, length, take, min, Some, None, Ok, Err, fold, Option, Result, sym, ap, ◌∙◌, add-one, arith}
 use Rattle.std.specs.List.{AllByRecursion}
 use Rattle.model.specs.Course.{Course, if_walked, limit, told_course}
 use Rattle.model.specs.Fraction.{Frac}
@@ -44,9 +43,6 @@ take-cons : {A : Type 0} (n m : ℕ) (x : A) (xs : List A) → n ≡ m + 1 → t
 take-cons n m x xs e = rw (e, add-one)
 
 module _ {S : Type 0} (step : S → PowerUnit → S) (fits : S → ℕ → Type 0) (start : S) (all : List PowerUnit) where
-  pub folding-none : fits start 0 → AllByRecursion Cap all → Folding step fits start all all 0 start
-  folding-none f h = record { top = omega arith; counts = omega arith; gives = refl; room = λ _. f; rest = h }
-
   module _ (left : List PowerUnit) (u : PowerUnit) (count next : ℕ) (s : S) (w : Folding step fits start all (u ∷ left) count s) (n : next ≡ min (count + 1) 4294967295) where
     -- the fold takes the unit
     pub folding-more : (t : S) → ((s : S) (n : ℕ) (u : PowerUnit) → n < 4000 → fits s n → Cap u → fits (step s u) (n + 1))
@@ -72,12 +68,6 @@ module _ {S : Type 0} (step : S → PowerUnit → S) (fits : S → ℕ → Type 
           room = λ k. absurd (omega arith);
           rest = w.rest.1;
         }
-
-  -- once nothing is to come, the fold has taken the first units
-  pub folding-done : (left : List PowerUnit) (count : ℕ) (s : S) → left ≡ [] → Folding step fits start all left count s → s ≡ fold step start (take limit all)
-  folding-done left count s n w =
-      let none : [] ≡ take (limit - count) left = rw (n, take-nil (limit - count)) in
-      ap (fold step s) none ∙ w.gives
 
 -- what a walk answers
 abbrev pub walk_answer : Layer → Course Listed → Result ℕ RegisterFault

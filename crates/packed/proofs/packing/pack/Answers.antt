@@ -1,14 +1,8 @@
 use Rattle.std.proofs.Common.{length, ap, ◌∙◌, arith}
 use Rattle.model.specs.Course.{told_course}
 use Rattle.model.specs.History.{listed}
-use Rattle.packed.proofs.Counted.{answers, buffer-is, read_back, room}
+use Rattle.packed.proofs.Counted.{answers, buffer-is, read_back}
 use Rattle.packed.proofs.packing.pack.Goals as goal
-
-pub write-requires : goal.write-requires
-write-requires g c =
-    let course = listed (g.R.Register.contents c.args.register.now) in
-    let e = c.in_ok-count.ensures in
-    room course c.in_ok-count.count e.answer (length c.args.buffer.now) (omega (arith, c.if-buffer-size.false)) e.left.restarted
 
 pub returns : goal.returns
 returns g c =
