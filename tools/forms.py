@@ -23,31 +23,35 @@ PATTERNS = {
     2: [
         ("fault types", r"^pub struct \w+Fault \{"),
         ("conversions of fault types", r"^impl From<\w+Fault> for \w+Fault"),
-        ("makers of a layer's fault", r"fn (refusal|fault|no_build_unit)\("),
-        ("numbers of a size", r"pub fn (word|long|huge)_at\("),
+        ("makers of a layer's fault", r"fn (refusal|fault|no_build_unit)\((rule|\))"),
+        ("numbers of a size", r"pub fn (word|long|huge)(_at)?\("),
         ("the bytes of a record", r"const RECORD: usize|chunks\(32\)"),
-        ("two intakes", r"^(pub )?(enum|struct) (Phase|Intake|Reply|IntakeFault) |pub fn take\(|fn (ask\w*|enter|answer|respond)(<[^>]*>)?\("),
-        ("rounded quotients", r"fn (quotient|mixture|mean)\("),
+        ("two intakes", r"^(pub )?(enum|struct) (Phase|Intake|Reply|IntakeFault) |pub fn (new|take)\(|fn (ask\w*|enter|answer)\(", r"crates/(intake|record_streams)/src/(phases|faults)"),
+        ("rounded quotients", r"fn (quotient|mixture|mean|weighted_mean)\("),
         ("searches by a code", r"fn find_(fuel|unit)\("),
-        ("constants and the functions beside them", r"fn (half_grams|may_stand_alone)\(|const (HALF_GRAMS|MAY_STAND_ALONE)|ghost (halves|alone)\b"),
+        ("constants and the functions beside them", r"fn (half_grams|may_stand_alone)\(|const (HALF_GRAMS|MAY_STAND_ALONE)"),
         ("runs and sums by one walk", r"fn (walk_run|walk_members|group_sums)\b"),
-        ("figures said twice", r"\b100_000_000\b|\b10_000_000\b[^,)]|^const COAL|^const HALVES|^pub const HALVES"),
+        ("figures and records said twice", r"^(pub )?const (COAL|MOST_GENERATION|MOST_FACTOR|MOST_EMISSION)\b|[<=>.] ?100_000_000\b.*[{)]|entry\.generation <= 100_000_000", r"crates/(model|book|layers|packed|worked)/"),
         ("answers of two questions", r"fn (both_questions|through_layers)\("),
     ],
-    3: [("loops", r"^\s*('\w+: )?(for|while|loop)\b.*\{$")],
+    3: [
+        ("a loop that counts an index or a place", r"^\s*for \w+ in \d+\.\.|\.enumerate\(\) \{$|^\s*while "),
+        ("any other loop", r"^\s*('\w+: )?for (?!\w+ in \d+\.\.)(?!.*\.enumerate\(\) \{$).*\{$|^\s*('\w+: )?loop \{$"),
+    ],
     4: [
-        ("numbers of an enum", r"fn (number|numbered)\("),
+        ("numbers of an enum", r"pub fn number\(self\)|fn numbered\("),
         ("an order", r"fn is_before\("),
-        ("a value made from another's parts", r"fn (told|last|unit|through)\("),
+        ("a unit made of another value's parts", r"fn (told|last|unit)\(.*\) -> PowerUnit"),
+        ("a fault built again field by field", r"^\s+layer: self\.layer,"),
         ("printing", r"impl fmt::\w+ for|fn text\(|println!|print!\("),
     ],
     6: [
-        ("arrays with a length beside them", r"^\s+(burns|pairs): \[|^\s+count: usize,"),
-        ("a sorted list searched by hand", r"fn (place|find_unit|find_fuel)\("),
+        ("an array with a length beside it", r"^\s+count: usize,"),
+        ("a list searched by hand", r"fn (place|find_unit|find_fuel)\("),
         ("a place in a buffer, counted", r"let mut (at|filled) = 0;"),
         ("an array with a value for none", r"= \[0(u16|u32)?; \d+\];"),
     ],
-    7: [("a step chosen by a trait or an enum", r"impl Fold for|trait Fold|fn has\(|fn grams_of\(|match MethodKind::")],
+    7: [("a step chosen by a trait or an enum", r"impl Fold for|trait Fold|fn has\(|fn grams_of\(|match MethodKind::|match kind \{")],
 }
 
 
@@ -62,12 +66,12 @@ def read(commit):
 
 
 def by_pattern(files, patterns):
-    for what, pattern in patterns:
+    for what, pattern, *where in patterns:
         places = [
             "%s:%d: %s" % (name, number, line.strip())
             for name, text in files
             for number, line in enumerate(text.split("\n"), 1)
-            if re.search(pattern, line) and not line.strip().startswith("//")
+            if re.search(pattern, line) and re.match(where[0] if where else "", name) and not line.strip().startswith("//")
         ]
         yield what, places
 

@@ -19,7 +19,7 @@ pub enum Kind {
 }
 
 // The unit started more than ten years before the reference day. The day goes by its number, since days are compared as they are
-// written.
+// written, and beside the unit, since no unit has one of its own.
 pub(crate) fn is_old(reference: u32, unit: &PowerUnit) -> bool
     ensures { result ≡ long_ago reference unit.now }
 {

@@ -15,6 +15,7 @@ use model::{
 };
 use register::{Passing, Register, walk};
 
+// Each layer has its own: one for all would need a trait with an impl as long as this for each fault type.
 fn refusal(rule: Rule) -> CombinedFault
     ensures { result.fault ≡ record { rule = rule; layer = Layer.Combined; place = 0; trail = 1 } }
 {

@@ -66,7 +66,8 @@ impl Intake {
         }
     }
 
-    // Takes one piece of the stream, which is a whole record or the short last one.
+    // Takes one piece of the stream, which is a whole record or the short last one. Book and methods come beside it, each by itself: a
+    // question changes the one and reads the other.
     pub fn take<M: MethodSet>(
         &mut self,
         book: &mut Book,

@@ -28,7 +28,7 @@ pub struct ImportEntry {
 pub struct Import<R> {
     register: R,
     entry: ImportEntry,
-    // Whether the last unit was told already.
+    // Whether the last unit was told already. No `Option` of it: after a restart it comes again.
     given: bool,
     ghost coded: { 1 ≤ entry.code },
     ghost short: { entry.code ≤ 65535 },
@@ -90,21 +90,19 @@ impl<R> Import<R> {
     {
         self.register
     }
+}
 
-    fn last(&self) -> PowerUnit
-        ensures { result ≡ told (imported (import_of self.now.entry)) }
-    {
-        let ImportEntry {
-            code,
-            generation,
-            factor,
-        } = self.entry;
+// The last unit, as the register tells it.
+impl From<ImportEntry> for PowerUnit {
+    ghost from_gives = { λ entry unit. unit ≡ told (imported (import_of entry)) };
+
+    fn from(entry: ImportEntry) -> PowerUnit {
         PowerUnit {
-            code,
+            code: entry.code,
             day: 0,
             class: Class::Import,
-            generation,
-            grams: u64::from(generation) * u64::from(factor),
+            generation: entry.generation,
+            grams: u64::from(entry.generation) * u64::from(entry.factor),
             default_grams: None,
         }
     }
@@ -134,7 +132,7 @@ impl<R: Register> Register for Import<R> {
             Some(unit) => Ok(Some(unit)),
             None => {
                 self.given = true;
-                Ok(Some(self.last()))
+                Ok(Some(PowerUnit::from(self.entry)))
             }
         }
     }

@@ -16,7 +16,7 @@ pub fn is_load(number: u32) -> bool
     number <= MOST_LOAD
 }
 
-// The place is an hour or a group.
+// The place is an hour or a group. Each layer has its own: one for all would need a trait with an impl as long as this for each fault type.
 pub(super) fn refusal(rule: Rule, place: u32) -> LoadFault
     ensures { result ≡ record { fault = new_fault rule LoadYear place } }
 {

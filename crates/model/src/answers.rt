@@ -2,7 +2,8 @@
 ghost use Rattle.std.specs.Prelude.{◌≡◌};
 ghost use Rattle.model.specs.Classes.{set_number};
 
-// Which of the three sets the build cohort is; absent where no build margin was asked for.
+// Which of the three sets the build cohort is. Absent where no build margin was asked for: a case of its own and no `Option`, since it is
+// told by a number too, 0, as the margin and the counts are 0 then.
 #[derive(Clone, Copy, PartialEq, Eq, Debug)]
 pub enum CohortSet {
     Absent,

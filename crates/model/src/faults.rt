@@ -135,7 +135,9 @@ impl Fault {
     }
 }
 
-// Each layer has a fault type of its own around the fault. One layer's becomes the next one's whole.
+// Each layer has a fault type of its own around the fault. One layer's becomes the next one's whole, by `From` and `?`, which is a rule of
+// the project. One generic type would need a marker for each layer and the same conversions one by one: a generic one would meet std's own
+// of a type to itself.
 
 #[derive(Clone, Copy, PartialEq, Eq, Debug)]
 pub struct RegisterFault {

@@ -61,6 +61,7 @@ fn write<R: Register>(register: &mut R, buffer: &mut [u8])
     ensures contents { R.Register.contents register.new ≡ R.Register.contents register.old }
     ensures buffer { buffer.new ≡ packed_bytes (R.Register.coming register.old).units ++ drop (32 * length (R.Register.coming register.old).units) buffer.old }
 {
+    // The place is counted: after `chunks_exact_mut` a proof knows none of the buffer's bytes.
     let mut at = 0;
     while let Some(unit) = next_unit(register) {
         write_record(&unit, &mut buffer[at..at + RECORD_SIZE]);

@@ -9,6 +9,7 @@ use model::{
     RegisterFault, Rule,
 };
 
+// Each layer has its own: one for all would need a trait with an impl as long as this for each fault type.
 fn refusal(rule: Rule, index: u32) -> RegisterFault
     ensures { result.fault ≡ packed_fault rule index }
 {
@@ -79,12 +80,14 @@ fn check(index: u32, latest: u32, bytes: &RecordBytes<'_>) -> Result<(), Registe
     Ok(())
 }
 
+// No `From`: both types are model's.
 fn unit(bytes: &RecordBytes<'_>) -> PowerUnit
     ensures { result ≡ told (packed_unit bytes.now.bytes.now) }
 {
     PowerUnit {
         code: bytes.word(2),
         day: bytes.long(4),
+        // As the unit of any bytes is defined; `check` has refused a class that is none.
         class: Class::try_from(bytes.second).unwrap_or(Class::Import),
         generation: bytes.long(8),
         grams: bytes.huge(16),

@@ -5,6 +5,7 @@ use packed::Packed;
 use register::Register;
 use std::test::Fail;
 
+// How a list ends is no refusal of a call, so that the fault is an `Option` here and below.
 fn ends(bytes: &[u8]) -> (u16, Option<Fault>) {
     let mut register = Packed::new(bytes);
     let told = six_of(&mut register);

@@ -23,6 +23,7 @@ pub(super) struct Accepted {
     ghost fits: { Fits burn },
 }
 
+// Each layer has its own: one for all would need a trait with an impl as long as this for each fault type.
 fn refusal(rule: Rule, code: u16) -> BookFault
     ensures { result ≡ record { fault = book_fault rule code } }
 {
