@@ -2,7 +2,7 @@
 use model::{BurnEntry, Cohort, CohortSet, CombinedMargin, Fuel, UnitEntry, Weights};
 
 // Of combined, operating and build margin, and the cohort.
-pub fn margin(
+pub(super) fn margin(
     [combined, operating, build]: [u32; 3],
     set: CohortSet,
     counts: (u16, u16, u16),
@@ -16,18 +16,18 @@ pub fn margin(
 }
 
 // One fuel unit is one gram.
-pub const GRAM: Fuel = Fuel {
+pub(super) const GRAM: Fuel = Fuel {
     code: 1,
     heat_content: 1_000,
     carbon_factor: 1,
 };
 
-pub const HALVES: Weights = Weights {
+pub(super) const HALVES: Weights = Weights {
     operating: 50,
     build: 50,
 };
 
-pub fn unit(code: u16, day: u32, generation: u32) -> UnitEntry {
+pub(super) fn unit(code: u16, day: u32, generation: u32) -> UnitEntry {
     UnitEntry {
         code,
         class: 0,
@@ -38,7 +38,7 @@ pub fn unit(code: u16, day: u32, generation: u32) -> UnitEntry {
     }
 }
 
-pub fn grams(unit: u16, quantity: u32) -> BurnEntry {
+pub(super) fn grams(unit: u16, quantity: u32) -> BurnEntry {
     BurnEntry {
         unit,
         fuel: 1,

@@ -7,13 +7,13 @@ use std::test::Fail;
 
 // The codes of the units that came, 0 where none did, and the fault at the end.
 #[derive(Clone, Copy)]
-pub struct Seen {
+pub(super) struct Seen {
     pub codes: [u16; 6],
     pub fault: Option<Fault>,
 }
 
 // Takes up to six units.
-pub fn six_of<R: Register>(register: &mut R) -> Seen {
+pub(super) fn six_of<R: Register>(register: &mut R) -> Seen {
     let mut seen = Seen {
         codes: [0; 6],
         fault: None,
@@ -31,12 +31,12 @@ pub fn six_of<R: Register>(register: &mut R) -> Seen {
     seen
 }
 
-pub fn fleet(code: u16, day: u32, units: u32) -> Result<Fleet, Fail> {
+pub(super) fn fleet(code: u16, day: u32, units: u32) -> Result<Fleet, Fail> {
     ending(code, day, units, None)
 }
 
 // A fault of a layer that is not under test, with a trail of one's choice.
-pub fn fault(place: u32, trail: u32) -> Fault {
+pub(super) fn fault(place: u32, trail: u32) -> Fault {
     Fault {
         rule: Rule::Missing,
         layer: Layer::LoadYear,
@@ -46,7 +46,7 @@ pub fn fault(place: u32, trail: u32) -> Fault {
 }
 
 // So many units, and then the fault.
-pub fn failing(code: u16, day: u32, units: u32, fault: Fault) -> Result<Fleet, Fail> {
+pub(super) fn failing(code: u16, day: u32, units: u32, fault: Fault) -> Result<Fleet, Fail> {
     ending(code, day, units, Some(fault))
 }
 
@@ -56,13 +56,16 @@ fn ending(code: u16, day: u32, units: u32, fault: Option<Fault>) -> Result<Fleet
 }
 
 // The import over the register, unless its numbers are refused.
-pub fn import<R: Register + Drop>(register: R, entry: ImportEntry) -> Result<Import<R>, Fail> {
+pub(super) fn import<R: Register + Drop>(
+    register: R,
+    entry: ImportEntry,
+) -> Result<Import<R>, Fail> {
     Import::new(register, entry).map_err(|_| Fail::new("refused"))
 }
 
 // A P record written field by field.
 #[derive(Clone, Copy)]
-pub struct Written {
+pub(super) struct Written {
     pub class: u8,
     pub code: u16,
     pub day: u32,
@@ -72,7 +75,7 @@ pub struct Written {
     pub default_grams: u64,
 }
 
-pub const SOUND: Written = Written {
+pub(super) const SOUND: Written = Written {
     class: 0,
     code: 5,
     day: 20_200_229,
@@ -83,7 +86,7 @@ pub const SOUND: Written = Written {
 };
 
 impl Written {
-    pub fn bytes(&self) -> [u8; 32] {
+    pub(super) fn bytes(&self) -> [u8; 32] {
         let mut bytes = [0u8; 32];
         bytes[0] = 80;
         bytes[1] = self.class;
