@@ -43,4 +43,4 @@ pub use facts::{load_laws, low_cost_laws, methods_agree, rounding_laws, stream_l
 
 mod fields;
 
-pub use fields::{RECORD_SIZE, RecordBytes};
+pub use fields::{RECORD_SIZE, RecordBytes, all_zero, huge_at, long_at, word_at};
