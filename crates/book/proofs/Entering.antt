@@ -1,5 +1,5 @@
 -- What an entry or a strike owes, from the life of the book's contents.
-use Rattle.std.proofs.Common.{◌≡◌, ℕ, suc, ◌<◌, List, [], ◌∷◌, ◌++◌, map, length, get_or, take, drop, set, Ok, Err, Result, refl, ap, ◌∙◌}
+use Rattle.std.proofs.Common.{◌≡◌, ℕ, suc, ◌<◌, List, [], ◌∷◌, ◌++◌, map, length, get_or, take, drop, set, Ok, Err, Result, sym, refl, ap, ◌∙◌}
 use mathlib.Core.List.{map-append}
 use Rattle.std.specs.List.{insert, remove}
 use Rattle.std.specs.Result.{IsErrAnd}
@@ -19,7 +19,7 @@ use Rattle.model.proofs.Lives as plain
 use Rattle.model.proofs.Lives.{Quiet, lives-burn, lives-quiet, lives-refused, lives-strike, lives-unit, told}
 use Rattle.book.specs.declared.books.Book.{Book}
 use Rattle.book.specs.declared.standing.StandingUnit.{StandingUnit}
-use Rattle.book.specs.Seen.{Entered, Lives, Restarted, seen}
+use Rattle.book.specs.Seen.{Entered, Lives, Restarted, coming, seen}
 use Rattle.book.specs.Standing.{GoesTo, StandsAt, fresh, standing}
 use Rattle.book.proofs.Read.{read-unit}
 
@@ -65,3 +65,9 @@ unit-struck fs xs ys i c is at made = lives-strike (holds fs xs) (map standing y
 
 pub kept-contents : (p q : Contents) → year_book q ≡ year_book p → q ≡ p
 kept-contents p q e = cc
+
+pub lives-kept : (v : Event) → Quiet v → (p q : Contents) → year_book q ≡ year_book p → plain.Lives v p q
+lives-kept v quiet p q e = rw (kept-contents p q e) (lives-quiet v quiet p)
+
+pub restarted-kept : (b c : Book) → year_book (seen c) ≡ year_book (seen b) → coming c ≡ told_course (book_course (seen b).units) → Restarted c
+restarted-kept b c e whole = whole ∙ ap (λ (p : Contents). told_course (book_course p.units)) (sym (kept-contents (seen b) (seen c) e))

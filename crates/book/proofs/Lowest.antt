@@ -1,5 +1,5 @@
 -- The lowest carbon factor is the least of the factors.
-use Rattle.std.proofs.Common.{◌≡◌, ℕ, min, List, [], ◌∷◌, map, refl, ap, Some, ◌∙◌, arith}
+use Rattle.std.proofs.Common.{◌≡◌, ℕ, min, List, [], ◌∷◌, ◌++◌, map, refl, ap, Some, ◌∙◌, arith}
 use Rattle.std.specs.List.{fold, reduce}
 use Rattle.model.specs.declared.units.Burn.{Burn}
 use Rattle.model.specs.Units.{lowest}
@@ -19,3 +19,8 @@ lowest-fold b (d ∷ bs) = fold-min (factor b) (factor d) bs ∙ ap (min (factor
 pub lowest-least : (bs : List Burn) → reduce min (map factor bs) ≡ lowest_of bs
 lowest-least [] = refl
 lowest-least (b ∷ bs) = ap Some (lowest-fold b bs)
+
+-- with one burn more
+pub lowest-push : (b : Burn) (bs : List Burn) (d : Burn) → lowest b (bs ++ d ∷ []) ≡ min (lowest b bs) d.fuel.carbon_factor
+lowest-push b [] d = refl
+lowest-push b (a ∷ bs) d = let p = lowest-push a bs d in omega (arith, p)

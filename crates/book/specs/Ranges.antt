@@ -1,6 +1,6 @@
 -- Every unit of the table is in range, by what holds of it alone.
-use Rattle.std.specs.Prelude.{◌≤◌, List, [], ◌∷◌, map}
-use Rattle.std.proofs.lemmas.List.Elements.{All-weaker, recursion_from_All}
+use Rattle.std.specs.Prelude.{◌≤◌, List, [], ◌∷◌, map, take}
+use Rattle.std.proofs.lemmas.List.Elements.{All-take, All-weaker, recursion_from_All}
 use Rattle.model.specs.Units.{InRange, Ranged, listed_unit}
 use Rattle.model.proofs.Emissions.{in-range}
 use Rattle.book.specs.declared.standing.StandingUnit.{StandingUnit}
@@ -15,7 +15,7 @@ unit-in-range u =
       short = u.short;
       dated = u.dated;
       ranged = u.ranged;
-      factors = recursion_from_All (λ b. b.fuel.carbon_factor ≤ 320000) u.burns.items (All-weaker Fits (λ b. b.fuel.carbon_factor ≤ 320000) (λ b f. f.carbon) u.burns.items u.fitting);
+      factors = recursion_from_All (λ b. b.fuel.carbon_factor ≤ 320000) (take u.count u.burns) (All-weaker Fits (λ b. b.fuel.carbon_factor ≤ 320000) (λ b f. f.carbon) (take u.count u.burns) (All-take Fits u.count u.burns u.fitting));
       capped = u.capped;
     })
 

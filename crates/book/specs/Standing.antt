@@ -1,5 +1,5 @@
 -- A unit of the book's table in the words of the subject.
-use Rattle.std.specs.Prelude.{◌≡◌, ℕ, ◌<◌, ◌≤◌, true, List, [], length, Ok, slice_index_or}
+use Rattle.std.specs.Prelude.{◌≡◌, ℕ, ◌<◌, ◌≤◌, true, List, [], length, take, Ok, slice_index_or}
 use Rattle.book.specs.declared.standing.StandingUnit.{StandingUnit}
 use Rattle.model.specs.declared.events.Event.TheVariants.{EnterBurn, Strike}
 use Rattle.model.specs.declared.ratios.Ratio.{Ratio}
@@ -10,9 +10,9 @@ use Rattle.model.specs.Fraction.{Frac, ratio}
 use Rattle.model.specs.Plain.{Before, Contents, burn_of, is_unit, no_unit, unit_of, verdict}
 use Rattle.model.specs.Units.{Standing}
 
--- The unit and its burns.
+-- The unit and its burns; the free places of its table are left out.
 abbrev pub standing : StandingUnit → Standing
-standing u = record { entry = u.entry; burns = u.burns.items }
+standing u = record { entry = u.entry; burns = take u.count u.burns }
 
 -- The fraction that a `Ratio` is.
 abbrev pub fraction : Ratio → Frac

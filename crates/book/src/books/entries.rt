@@ -48,7 +48,9 @@ impl Book {
         ensures { Entered (EnterBurn entry) self.old self.new result }
     {
         let accepted = self.check_burn(&entry)?;
-        self.units[accepted.place].add_burn(accepted.burn);
+        let mut unit = self.units[accepted.place];
+        unit.add_burn(accepted.burn);
+        self.units[accepted.place] = unit;
         self.at = 0;
         Ok(())
     }

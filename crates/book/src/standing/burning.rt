@@ -27,14 +27,14 @@ impl StandingUnit {
     pub(crate) fn burns_fuel(&self, code: u16) -> bool
         ensures { result ≡ any (burns_fuel code) (standing self.now).burns }
     {
-        self.burns.iter().any(|burn| burn.fuel.code == code)
+        self.burns().iter().any(|burn| burn.fuel.code == code)
     }
 
     // No place is left for a burn.
     pub(crate) fn is_full(&self) -> bool
         ensures { result ≡ nat_le 4 (length (standing self.now).burns) }
     {
-        self.burns.is_full()
+        self.burns().len() == self.burns.len()
     }
 
     // The thousandths of a gram from all burns.
@@ -42,7 +42,7 @@ impl StandingUnit {
         ensures value { result ≡ sum_by burned (standing self.now).burns }
         ensures bound { result ≤ 1280000000000000000 }
     {
-        self.burns.iter().map(thousandths).sum()
+        self.burns().iter().map(thousandths).sum()
     }
 
     // With this burn too, a unit without an efficiency would emit more than the limit.
@@ -60,6 +60,7 @@ impl StandingUnit {
         requires capped { exceeds (standing self.old) burn ≡ false }
         ensures { standing self.new ≡ record { entry = (standing self.old).entry; burns = (standing self.old).burns ++ burn ∷ [] } }
     {
-        self.burns.push(burn);
+        self.burns[self.count] = burn;
+        self.count += 1;
     }
 }

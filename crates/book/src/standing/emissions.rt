@@ -14,7 +14,10 @@ impl StandingUnit {
         ensures value { result ≡ lowest_of (standing self.now).burns }
         ensures bound { IfSome result (λ factor. factor ≤ 320000) }
     {
-        self.burns.iter().map(|burn| burn.fuel.carbon_factor).min()
+        self.burns()
+            .iter()
+            .map(|burn| burn.fuel.carbon_factor)
+            .min()
     }
 
     // Grams by an efficiency in per mille, 0 without burns.
@@ -44,7 +47,7 @@ impl StandingUnit {
     pub fn default_emission(&self) -> Option<Ratio>
         ensures { option_map fraction result ≡ default_emission (standing self.now) }
     {
-        if self.burns.is_empty() {
+        if self.burns().is_empty() {
             return Ratio::new(0, 1);
         }
         if self.entry.default_efficiency == 0 {

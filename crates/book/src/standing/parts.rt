@@ -8,7 +8,6 @@ ghost use Rattle.book.specs.Burns.{Fits};
 ghost use Rattle.book.specs.Standing.{fresh, standing};
 
 use super::StandingUnit;
-use arrayvec::ArrayVec;
 use model::{Burn, Class, UnitEntry};
 
 // The class of a home unit, if the entry's number tells one.
@@ -30,7 +29,8 @@ impl StandingUnit {
     {
         StandingUnit {
             entry,
-            burns: ArrayVec::new(),
+            burns: [Burn::default(); 4],
+            count: 0,
         }
     }
 
@@ -46,6 +46,6 @@ impl StandingUnit {
         ensures few { length result.now ≤ 4 }
         ensures fits { All Fits result.now }
     {
-        &self.burns
+        &self.burns[..self.count]
     }
 }

@@ -15,7 +15,7 @@ lives : (c : After-add_burn) → plain.Lives (EnterBurn c.args.entry) (seen c.ar
 lives c =
     let b = c.args.self.now in
     let a = c.in_ok-accepted.ensures in
-    burn-entered (seen b).fuels (vec_items b.units) c.in_ok-accepted.accepted.place c.args.entry c.index_mut.result.now c.add_burn.new.self c.in_ok-accepted.accepted.burn a.accepted a.stands c.index_mut.ensures.value a.burn c.add_burn.ensures
+    burn-entered (seen b).fuels (vec_items b.units) c.in_ok-accepted.accepted.place c.args.entry c.index.result.now c.add_burn.new.self c.in_ok-accepted.accepted.burn a.accepted a.stands c.index.ensures a.burn c.add_burn.ensures
 
 pub invariant_of-self-clause-reached : goal.invariant_of-self-clause-reached
 invariant_of-self-clause-reached c = reached-more (EnterBurn c.args.entry) _ _ (lives (goal.at.invariant_of-self-clause-reached c).After-add_burn) c.args.self.now.reached
