@@ -12,7 +12,7 @@ use std::error::Error;
 use std::fmt;
 
 // What the engine does not do yet.
-#[derive(Clone, Copy, PartialEq, Eq, Debug)]
+#[derive(Clone, Copy, PartialEq, Eq)]
 pub enum Feature {
     LoadRecords,
     YearlyRecords,
@@ -28,6 +28,13 @@ impl fmt::Display for Feature {
             Feature::SimpleMethod => "the simple method (1) is not built yet",
             Feature::AdjustedMethod => "the simple adjusted method (2) is not built yet",
         })
+    }
+}
+
+// By hand, and no derive: a program that ends with an error shows it in this form, so that it reads as text too.
+impl fmt::Debug for Feature {
+    fn fmt<W: fmt::Write>(&self, f: &mut fmt::Formatter<W>) -> fmt::Result {
+        fmt::Display::fmt(self, f)
     }
 }
 

@@ -1,6 +1,7 @@
-// A whole stream of records, of every kind but strikes and loads, taken in one call.
+// A whole stream of records, of every kind but strikes and loads, taken in one call; and how what is not built reads.
 use super::shared::margin;
 use book::Book;
+use intake::respond;
 use model::{CohortSet, Fault, IntakeFault, Layer, Reply, Rule};
 use record_streams::{Intake, Methods, take_all};
 use std::alloc::{AllocError, Global};
@@ -71,5 +72,20 @@ fn every_method_in_one_stream(rt: HostRuntime) -> Result<(), Fail> {
         replies[13],
         refused(Rule::ShortOrForeignRecord, Layer::Intake, 13)
     );
+    Ok(())
+}
+
+// A program that ends with it shows the form for programmers, so that this one reads as text too.
+#[test]
+fn what_is_not_built_reads_as_text(rt: HostRuntime) -> Result<(), Fail> {
+    let mut book = Book::new(rt.alloc())?;
+    let mut intake = Intake::new();
+    let mut piece = [0u8; 32];
+    piece[0] = b'H';
+    let missing = respond(&mut intake, &mut book, &piece)
+        .err()
+        .ok_or("it is built")?;
+    let text = format!(in rt.alloc(); "{missing:?}")?;
+    assert_eq!(rt; text.as_str(), "load records (H) are not built yet");
     Ok(())
 }
