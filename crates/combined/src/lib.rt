@@ -1,10 +1,12 @@
 // The combined margin: operating and build margin of a register's list, weighted.
 #![tactic(auto)]
 
-ghost use Rattle.std.specs.Prelude.{◌≡◌, ◌+◌, Some, Option, MatchResult};
+ghost use Rattle.std.specs.Prelude.{◌≡◌, ◌+◌, ◌*◌, Some, Option, MatchResult};
 ghost use Rattle.model.specs.Course.{told_course};
+ghost use Rattle.model.specs.Fraction.{ratio};
 ghost use Rattle.model.specs.History.{listed};
 ghost use Rattle.model.specs.Promise.{Promise, asked};
+ghost use Rattle.model.specs.Rounding.{rounded};
 ghost use Rattle.model.specs.declared.faults.Fault.{Fault};
 ghost use Rattle.combined.specs.Builds.{built_for};
 
@@ -62,6 +64,18 @@ fn weighted_build<R: Register>(
     Ok(build_margin(register, reference)?)
 }
 
+// Rounded once.
+fn mixture(weights: Weights, operating: u32, build: u32) -> u32
+    requires { weights.operating + weights.build ≡ 100 }
+    ensures { result ≡ rounded (ratio (weights.operating * operating + weights.build * build) 100) }
+{
+    weighted_mean(
+        (u16::from(weights.operating), operating),
+        (u16::from(weights.build), build),
+    )
+    .unwrap()
+}
+
 // The margins and the cohort of the register's list by a method, on a reference day. Refused with the first fault: of the
 // question, of the walk, of the method, of the cohort. The register is left restarted, refused or not.
 pub fn combined_margin<R: Register, M: Method>(
@@ -77,11 +91,7 @@ pub fn combined_margin<R: Register, M: Method>(
     walk(register, Layer::Combined, &mut Passing {})?;
     let operating = method.operating_margin(register)?;
     let build = weighted_build(weights, register, day)?;
-    let combined = weighted_mean(
-        (u16::from(weights.operating), operating),
-        (u16::from(weights.build), build.margin),
-    )
-    .unwrap();
+    let combined = mixture(weights, operating, build.margin);
     Ok(CombinedMargin {
         combined,
         operating,

@@ -1,5 +1,5 @@
 -- The walk's fold gives the sums of the groups.
-use Rattle.std.proofs.Common.{◌≡◌, ℕ, ◌+◌, cond, not, List, [], ◌∷◌, map, length, take, Ok, Err, fold, sum_by, filter, Result, refl, ◌∙◌, arith}
+use Rattle.std.proofs.Common.{◌≡◌, ℕ, ◌+◌, ◌≤◌, cond, not, List, [], ◌∷◌, map, length, take, Ok, Err, fold, sum_by, filter, Result, refl, ◌∙◌, arith}
 use Rattle.std.proofs.lemmas.List.Filters.{sum_by-filter_both}
 use Rattle.std.proofs.lemmas.List.Sums.{sum_by-cons}
 use Rattle.model.specs.Classes.{is_low_cost}
@@ -12,7 +12,7 @@ use Rattle.model.specs.declared.faults.RegisterFault.{RegisterFault}
 use Rattle.model.specs.declared.units.PowerUnit.{PowerUnit}
 use Rattle.model.proofs.Sums.{sum_kept}
 use Rattle.register.proofs.Walking.{walk-folds}
-use Rattle.method.specs.Groups.{group_sums, nothing, stepped, sums_of}
+use Rattle.method.specs.Groups.{Small, group_sums, nothing, stepped, sums_of}
 use Rattle.method.specs.declared.groups.GroupSums.{GroupSums}
 
 -- each number of the fold adds up a weight of the units
@@ -45,8 +45,14 @@ module _ (c : Course Listed) (n : ℕ) (s : GroupSums)
   abbrev parts : GroupSums → (ℕ × ℕ) × (ℕ × ℕ)
   parts x = (x.low_cost, x.other)
 
+  walks : (Ok (parts s) ≡ if_walked {B = Result ((ℕ × ℕ) × (ℕ × ℕ)) RegisterFault} Method c (Ok (group_sums c.units)) (λ f. Err (record { fault = f }))) × (n ≤ 4000)
+  walks = walk-folds Method (λ f. record { fault = f }) (λ f. record { fault = f }) stepped nothing s parts c n (group_sums c.units) walked is (λ i. (low-cost-sums c.units i, other-sums c.units i))
+
   pub sums-answer : Ok (s.low_cost, s.other) ≡ if_walked {B = Result ((ℕ × ℕ) × (ℕ × ℕ)) RegisterFault} Method c (Ok (group_sums c.units)) (λ f. Err (record { fault = f }))
-  sums-answer = (walk-folds Method (λ f. record { fault = f }) (λ f. record { fault = f }) stepped nothing s parts c n (group_sums c.units) walked is (λ i. (low-cost-sums c.units i, other-sums c.units i))).0
+  sums-answer = walks.0
+
+  pub sums-small : Small s n → s.low_cost.1 + s.other.1 ≤ 400000000000
+  sums-small f = omega (arith, f.generation, walks.1)
 
 -- both groups together are all units
 pub both-groups : (us : List Listed) (w : Listed → ℕ) → sum_by w (filter low_cost us) + sum_by w (filter other_than_low_cost us) ≡ sum_by w us

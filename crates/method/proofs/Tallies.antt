@@ -1,6 +1,7 @@
 -- The yearly pairs: what a pair that stands has passed, and why there is always room.
-use Rattle.std.proofs.Common.{◌≡◌, ℕ, zero, suc, ◌+◌, ◌<◌, ◌≤◌, Bool, true, false, cond, not, eqb, List, [], ◌∷◌, ◌++◌, length, get_or, Some, None, Ok, sum_by, count_by, refl, inl, inr, arith}
-use Rattle.std.specs.List.{AllPass, list_any}
+use Rattle.std.proofs.Common.{◌≡◌, ℕ, zero, suc, ◌+◌, ◌<◌, ◌≤◌, Bool, true, false, cond, not, eqb, List, [], ◌∷◌, ◌++◌, length, get_or, Some, None, Ok, Err, sum_by, count_by, Option, refl, inl, inr, arith}
+use Rattle.std.specs.List.{AllByRecursion, AllPass, list_any}
+use Rattle.std.proofs.ByRecursion.{All-get_or}
 use Rattle.std.proofs.lemmas.List.{length_push}
 use Rattle.std.proofs.lemmas.List.Elements.{All-head, All-tail}
 use Rattle.std.proofs.lemmas.Grind.{elements}
@@ -13,7 +14,7 @@ use Rattle.model.specs.declared.faults.Rule.TheVariants.{MethodClosed, Missing}
 use Rattle.model.specs.declared.records.YearlyPair.{YearlyPair}
 use Rattle.model.specs.Faults.{first_of, unless_refused}
 use Rattle.model.specs.Methods.{closed, method_fault}
-use Rattle.model.specs.Operating.{is_year, pair_answer, pair_in_range, years_fault}
+use Rattle.model.specs.Operating.{is_year, pair_answer, pair_fault, pair_in_range, pairs_after, years_fault}
 use Rattle.model.specs.Plain.{any}
 use Rattle.model.proofs.Firsts.{count-cons}
 
@@ -25,6 +26,9 @@ pub record Ranged (p : YearlyPair) : Type 0 where
 in-range : (p : YearlyPair) → pair_in_range p ≡ true → Ranged p
 in-range p e = record { year = grind (arith, nat_tests); all = grind (arith, nat_tests); lower = grind (arith, nat_tests) }
 
+pub range_at : (ps : List YearlyPair) (i : ℕ) (d : YearlyPair) → i < length ps → AllByRecursion (λ p. pair_in_range p ≡ true) ps → Ranged (get_or ps i d)
+range_at ps i d l h = in-range (get_or ps i d) (All-get_or (λ p. pair_in_range p ≡ true) ps i d l h)
+
 -- whether some element passes, by a search and by a count
 pub any_is : {A : Type 0} (p : A → Bool) (xs : List A) → list_any p xs ≡ any p xs
 any_is p [] = refl
@@ -33,8 +37,17 @@ any_is p (x ∷ xs) = grind (arith, nat_tests, any_is p xs, count-cons p x xs)
 -- ---- a pair that is not refused
 
 pub record Passed (ps : List YearlyPair) (p : YearlyPair) : Type 0 where
+  pub none : pair_fault ps p ≡ None
   pub ranged : pair_in_range p ≡ true
   pub apart : count_by (is_year p.year) ps ≡ 0
+
+pub not-refused : {A : Type 0} (f : Option Fault) (x : A) → Ok x ≡ unless_refused {E = MethodFault} (λ e. record { fault = e }) f x → f ≡ None
+not-refused None x h = refl
+not-refused (Some f) x h = cc
+
+pub refused-by : {A : Type 0} (f : Option Fault) (y : MethodFault) (x : A) → Err y ≡ unless_refused {E = MethodFault} (λ e. record { fault = e }) f x → f ≡ Some y.fault
+refused-by None y x h = cc
+refused-by (Some f) y x h = cc
 
 both-passed : (fits stands : Bool) (f g : Fault) → Ok (tt {0}) ≡ unless_refused {A = Unit {0}} {E = MethodFault} (λ e. record { fault = e }) (first_of ((not fits, f) ∷ (stands, g) ∷ [])) (tt {0}) → (fits ≡ true) × (stands ≡ false)
 both-passed true true f g h = (refl, cc)
@@ -44,7 +57,11 @@ both-passed false stands f g h = (cc, cc)
 pub passed : (ps : List YearlyPair) (p : YearlyPair) → Ok tt ≡ pair_answer ps p → Passed ps p
 passed ps p h =
     let k = both-passed (pair_in_range p) (any (is_year p.year) ps) _ _ h in
-    record { ranged = k.0; apart = omega (arith, ltb-false 0 (count_by (is_year p.year) ps) k.1) }
+    record { none = not-refused (pair_fault ps p) tt h; ranged = k.0; apart = omega (arith, ltb-false 0 (count_by (is_year p.year) ps) k.1) }
+
+-- one that is refused leaves the pairs
+pub pairs-stay : (ps : List YearlyPair) (p : YearlyPair) (y : MethodFault) → Err y ≡ pair_answer ps p → ps ≡ pairs_after ps p
+pairs-stay ps p y h = rw (refused-by (pair_fault ps p) y tt h) refl
 
 -- ---- five years, no two pairs of one year
 
@@ -75,21 +92,21 @@ sums-few ps ranged apart =
 
 -- ---- with one pair more
 
-module _ (ps : List YearlyPair) (p : YearlyPair) (h : Passed ps p) (ranged : AllPass pair_in_range ps) (apart : Apart ps) where
-  pub ranged-more : AllPass pair_in_range (ps ++ p ∷ [])
-  ranged-more = grind (arith, elements, h.ranged)
+module _ (ps : List YearlyPair) (p : YearlyPair) where
+  pub ranged-more : pair_in_range p ≡ true → AllPass pair_in_range ps → AllPass pair_in_range (ps ++ p ∷ [])
+  ranged-more here ranged = grind (arith, elements, here)
 
-  pub apart_more : Apart (ps ++ p ∷ [])
-  apart_more y =
+  pub apart_more : count_by (is_year p.year) ps ≡ 0 → Apart ps → Apart (ps ++ p ∷ [])
+  apart_more none apart y =
       let s = sum_by_push (λ q. cond (is_year y q) 1 0) ps p in
       elim (cases_Bool (is_year y p)) [
-        | inl e ↦ let z = rw (eqb-true p.year y e) at h.apart in grind (arith, s, e, z)
+        | inl e ↦ let z = rw (eqb-true p.year y e) at none in grind (arith, s, e, z)
         | inr e ↦ grind (arith, s, e, apart y)
       ]
 
   -- one that is not refused finds a free place
-  pub room : length ps < 5
-  room = omega (arith, few (ps ++ p ∷ []) ranged-more apart_more, length_push ps p)
+  pub room : Passed ps p → AllPass pair_in_range ps → Apart ps → length ps < 5
+  room h ranged apart = omega (arith, few (ps ++ p ∷ []) (ranged-more h.ranged ranged) (apart_more h.apart apart), length_push ps p)
 
 -- ---- what refuses the method by its pairs
 

@@ -1,5 +1,5 @@
 -- What the simple adjusted method computes from the sums of the groups and the loads of a year is what it means.
-use Rattle.std.proofs.Common.{◌≡◌, ℕ, ◌+◌, ◌-◌, ◌*◌, ◌<◌, ◌≤◌, Bool, true, false, cond, eqb, ltb, List, length, Some, None, Ok, Err, sum_by, filter, Result, unwrap_or, sym, refl, ap, ◌∙◌, arith}
+use Rattle.std.proofs.Common.{◌≡◌, ℕ, ◌+◌, ◌-◌, ◌*◌, ◌<◌, ◌≤◌, Bool, true, false, cond, eqb, ltb, List, length, IfSome, Some, None, Ok, Err, sum_by, filter, Option, Result, unwrap_or, sym, refl, ap, ◌∙◌, arith}
 use Rattle.std.proofs.lemmas.List.Sums.{count_by-le-length}
 use Rattle.std.proofs.lemmas.Bool.{le-ltb, lt-ltb}
 use Rattle.model.specs.Course.{Course, if_walked}
@@ -20,10 +20,18 @@ use Rattle.method.specs.Groups.{group_sums, mean_of}
 use Rattle.method.proofs.Meeting.{low-cost-sums, mean-some, meets-none, other-sums}
 use Rattle.method.proofs.Verdicts.{judged-walked}
 
+-- a mixture of two figures stays below their limit
+pub mixture-small : (n h a b : ℕ) → h ≤ n → a ≤ 10000000 → b ≤ 10000000 → (n - h) * a + h * b ≤ 10000000 * n
+mixture-small n h a b few small low = grind arith
+
 -- the value of a mean that may be none
 value_of : (b : Bool) (x : ℕ) → unwrap_or (cond b None (Some x)) 0 ≡ cond b 0 x
 value_of true x = refl
 value_of false x = refl
+
+pub value-small : (o : Option ℕ) → IfSome o (λ a. a ≤ 10000000) → unwrap_or o 0 ≤ 10000000
+value-small None h = omega arith
+value-small (Some a) h = h
 
 -- there are no more low-cost hours than hours
 pub hours-few : (hours : ℕ) (year : ℕ → Hour) (loads : List ℕ) (k : ℕ) → Ok loads ≡ read_year year hours → low_cost_hours loads k ≤ hours

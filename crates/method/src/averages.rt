@@ -1,6 +1,7 @@
 // The average method: every unit shares by its generation.
 ghost use Rattle.std.specs.Prelude.{◌≡◌, ℕ, true};
-ghost use Rattle.model.specs.Methods.{average_answer, average_meaning};
+ghost use Rattle.model.specs.Methods.{average_answer, average_meaning, method_fault};
+ghost use Rattle.model.specs.declared.faults.Rule.TheVariants.{NoShare};
 ghost use Rattle.method.specs.Means.{average-fair, average-near};
 ghost use Rattle.std.proofs.Common.{rules};
 
@@ -12,6 +13,13 @@ use register::Register;
 
 #[derive(Clone, Copy)]
 pub struct Average {}
+
+// No unit has a share. Layer and place are promised here, by a clause of its own.
+fn no_share() -> MethodFault
+    ensures { result ≡ record { fault = method_fault NoShare 0 } }
+{
+    refusal(Rule::NoShare, 0)
+}
 
 impl Method for Average {
     const DISTANCE: u32 = 2;
@@ -35,6 +43,6 @@ impl Method for Average {
     fn operating_margin<R: Register>(&self, register: &mut R) -> Result<u32, MethodFault> {
         let (low_cost, other) = group_sums(register)?;
         let all = (low_cost.0 + other.0, low_cost.1 + other.1);
-        mean(all).ok_or(refusal(Rule::NoShare, 0))
+        mean(all).ok_or(no_share())
     }
 }

@@ -21,8 +21,7 @@ use Rattle.model.specs.declared.records.Record.{Record}
 use Rattle.model.specs.declared.records.Record.TheVariants.{Burn, Fuel, Load, Question as Asked, Strike, Unit as UnitRecord, Yearly}
 use Rattle.record_streams.specs.Feeding.{Stands, phase_of}
 use Rattle.intake.specs.Taking.{AsksKind, Leaves, Questions, next_phase}
-use Rattle.record_streams.specs.Taking.{AsksMethod}
-use Rattle.record_streams.proofs.Taking.{Gathers, Taken, Takes, TakesRecord}
+use Rattle.record_streams.specs.Taking.{AsksMethod, Gathers, Taken, Takes, TakesRecord}
 use Rattle.record_streams.specs.declared.methods.Methods.{Methods}
 use Rattle.intake.specs.declared.phases.Intake.{Intake}
 use Rattle.intake.specs.declared.phases.Phase.{Phase}

@@ -6,7 +6,7 @@ use Rattle.book.specs.declared.books.Book.{Book}
 use Rattle.model.specs.Records.{record_of}
 use Rattle.model.specs.Streams.{Replies, ReplyTo, Stand, after_all, after_piece, index_after, next_index}
 use Rattle.record_streams.specs.Feeding.{Stands}
-use Rattle.record_streams.proofs.Taking.{Answer, Taken}
+use Rattle.record_streams.specs.Taking.{Answer, Taken}
 use Rattle.record_streams.specs.declared.methods.Methods.{Methods}
 use Rattle.intake.specs.declared.phases.Intake.{Intake}
 use Rattle.record_streams.proofs.Fed.{fed, walk-taken}

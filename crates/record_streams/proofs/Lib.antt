@@ -1,4 +1,3 @@
-pub mod Taking
 pub mod Standing
 pub mod Asking
 pub mod Fed

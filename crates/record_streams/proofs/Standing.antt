@@ -26,8 +26,7 @@ use Rattle.model.specs.declared.records.Record.{Record}
 use Rattle.model.specs.declared.records.Record.TheVariants.{Burn, Fuel, Load, Question as Asked, Strike, Unit as UnitRecord, Yearly}
 use Rattle.model.specs.declared.records.YearlyPair.{YearlyPair}
 use Rattle.intake.specs.Taking.{EntersBook, EntersMethods, handed_on}
-use Rattle.record_streams.specs.Taking.{EntersLoad, EntersPair, pairs_in, year_in}
-use Rattle.record_streams.proofs.Taking.{Gathers}
+use Rattle.record_streams.specs.Taking.{EntersLoad, EntersPair, Gathers, pairs_in, year_in}
 use Rattle.record_streams.specs.declared.methods.Methods.{Methods}
 
 -- what book and methods hold, whatever the intake's phase and index

@@ -1,5 +1,5 @@
 -- What the methods make of the entries that are theirs, and of questions.
-use Rattle.std.specs.Prelude.{◌≡◌, ℕ, true, false, List, IfErr, Result}
+use Rattle.std.specs.Prelude.{◌≡◌, ℕ, true, false, List, IfErr, Option, Result}
 use Rattle.book.specs.declared.books.Book.{Book}
 use Rattle.load.specs.Taking.{TakenIn, year_of}
 use Rattle.method.specs.Pairs.{pairs_of}
@@ -15,8 +15,11 @@ use Rattle.model.specs.declared.records.LoadGroup.{LoadGroup}
 use Rattle.model.specs.declared.records.MethodKind.{MethodKind}
 use Rattle.model.specs.declared.records.MethodKind.TheVariants.{Adjusted, Average, Simple}
 use Rattle.model.specs.declared.records.Question.{Question}
+use Rattle.model.specs.declared.records.Record.{Record}
 use Rattle.model.specs.declared.records.YearlyPair.{YearlyPair}
-use Rattle.intake.specs.Taking.{AsksBy, handed_on}
+use Rattle.intake.specs.Taking.{AsksBy, handed_on, Gathers as GathersBy, Taken as TakenBy, Takes as TakesBy, TakesRecord as TakesRecordBy}
+use Rattle.intake.specs.declared.phases.Intake.{Intake}
+use Rattle.intake.specs.declared.phases.Phase.{Phase}
 use Rattle.record_streams.specs.declared.methods.Methods.{Methods}
 
 -- What the methods have taken in: the yearly pairs in order of entry, and what the load year says of each hour.
@@ -46,3 +49,19 @@ abbrev pub AsksMethod : MethodKind → Question → Methods → Book → Book �
 AsksMethod Simple q m b c r = AsksBy (simple_meaning (pairs_in m)) (λ us a. a ≡ simple_answer us) 2 false q b c r
 AsksMethod Adjusted q m b c r = AsksBy (adjusted_meaning year_hours (year_in m)) (λ us a. a ≡ adjusted_answer year_hours (year_in m) us) 3 false q b c r
 AsksMethod Average q m b c r = AsksBy average_meaning (λ us a. a ≡ average_answer us) 2 true q b c r
+
+-- What the intake makes of a record, and of a piece of the stream, with these methods.
+abbrev pub Answer : Type 0
+Answer = Result Reply IntakeFault
+
+abbrev pub Gathers : Record → Book → Book → Methods → Methods → Answer → Type 0
+Gathers = GathersBy Entered EntersLoad EntersPair AsksMethod
+
+abbrev pub TakesRecord : Phase → ℕ → Record → Book → Book → Methods → Methods → Answer → Type 0
+TakesRecord = TakesRecordBy Entered EntersLoad EntersPair AsksMethod
+
+abbrev pub Takes : Phase → ℕ → Option Record → Book → Book → Methods → Methods → Answer → Type 0
+Takes = TakesBy Entered EntersLoad EntersPair AsksMethod
+
+abbrev pub Taken : Intake → Intake → Book → Book → Methods → Methods → List ℕ → Answer → Type 0
+Taken = TakenBy Entered EntersLoad EntersPair AsksMethod

@@ -9,4 +9,4 @@ pub use methods::Methods;
 
 mod streams;
 
-pub use streams::take_all;
+pub use streams::{take, take_all};

@@ -1,8 +1,6 @@
-use Rattle.std.proofs.Common.{◌+◌, ◌*◌, Some, Err, sym, ap, ◌∙◌}
+use Rattle.std.proofs.Common.{Some, Err, sym, ap, ◌∙◌}
 use Rattle.std.proofs.lemmas.Result.{err_from_is_err_and}
-use Rattle.model.specs.Fraction.{ratio}
 use Rattle.model.specs.History.{listed}
-use Rattle.model.specs.Rounding.{rounded}
 use Rattle.model.specs.declared.faults.CombinedFault.{CombinedFault}
 use Rattle.model.proofs.Cohorts.{computed-is-cohort}
 use Rattle.model.proofs.Nearness.{build-near}
@@ -91,13 +89,11 @@ returns g c =
     let q = c.in_ok-day.ensures in
     let list = listed (g.R.Register.contents register) in
     let all = walked list _ (walk-moved a v.answer) in
-    let figure = rw c.unwrap-combined.ensures at c.weighted_mean.ensures in
     answered-whole (g.M.Method.meaning m) (g.M.Method.may m) g.M.Method.DISTANCE g.M.Method.STANDS_ALONE w.operating w.build c.args.reference _ _ _ alive
     (e.contents ∙ d) (restart-moved d (e.restarted (restart-moved (sym o.left.contents) o.left.restarted)))
     q.2 all
     c.in_ok-operating.operating (meets-moved b (g.M.Method.meaning m) (g.M.Method.may m) _ o.answer)
-    c.in_ok-build.build c.unwrap-combined.result
+    c.in_ok-build.build c.mixture-combined.result
     (built-ok w.build c.args.reference list all build-near computed-is-cohort ranged falls c.in_ok-build.build (built-moved d w.build q.0 e.answer))
-    (figure ∙ (λ i. rounded (ratio (c.from.ensures i * c.in_ok-operating.operating + c.from-2.ensures i * c.in_ok-build.build.margin) (c.from.ensures i + c.from-2.ensures i)))
-    ∙ ap (λ n. rounded (ratio (w.operating * c.in_ok-operating.operating + w.build * c.in_ok-build.build.margin) n)) q.1)
+    c.mixture-combined.ensures
     (g.met.M.Method.near m) ranged falls

@@ -2,7 +2,7 @@ use Rattle.std.proofs.Common.{◌≡◌, ◌+◌, ◌≤◌, ℕ, List, ◌++◌
 use Rattle.std.specs.Slice.Iter.{chunks_rest, chunks_size}
 use Rattle.model.specs.Records.{pieces_of}
 use Rattle.record_streams.proofs.Flowing.{Flows}
-use Rattle.record_streams.proofs.Taking.{Answer}
+use Rattle.record_streams.specs.Taking.{Answer}
 use Rattle.record_streams.proofs.streams.take_all.Given as goal
 
 -- The pieces so far are taken, those of the rest are still to come, and there is room for their replies.

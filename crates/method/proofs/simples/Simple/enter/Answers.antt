@@ -12,4 +12,4 @@ pub invariant_of-self : goal.invariant_of-self
 invariant_of-self c =
     let m = c.args.self.now in
     let h = passed (pairs_of m) c.args.pair c.in_ok-check.ensures in
-    rw c.push.ensures.items (record { ranged = ranged-more (pairs_of m) c.args.pair h m.ranged m.apart; apart = apart_more (pairs_of m) c.args.pair h m.ranged m.apart })
+    rw c.push.ensures.items (record { ranged = ranged-more (pairs_of m) c.args.pair h.ranged m.ranged; apart = apart_more (pairs_of m) c.args.pair h.apart m.apart })
