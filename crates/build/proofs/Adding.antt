@@ -15,7 +15,7 @@ use Rattle.model.specs.declared.faults.Fault.{Fault}
 use Rattle.model.specs.declared.faults.Layer.TheVariants.{Build}
 use Rattle.model.proofs.Joining.{generates-more}
 use Rattle.register.proofs.Walking.{walk-folds}
-use Rattle.build.specs.Members.{first_without, grams_of, member_step, no_sums, or_code, sums_of, taken, walked_sums, with_member}
+use Rattle.build.specs.Members.{Roomy, first_without, grams_of, member_step, no_sums, or_code, sums_of, taken, walked_sums, with_member}
 use Rattle.build.specs.declared.members.Members.{Members}
 use Rattle.build.specs.declared.members.Sums.{Sums}
 
@@ -86,6 +86,8 @@ module _ (reference : ℕ) (c : Cohort) where
   pub walk-adds : {E : Type 0} (wrap : Fault → E) (d : Course Listed) (n : ℕ) (m : Members)
       → Ok n ≡ if_walked Build d (Ok (length d.units)) (λ f. Err (wrap f))
       → m ≡ fold member_step (state c.counts no_sums) (take 4000 (map told d.units))
-      → Ok m.sums ≡ walked_sums reference c d
-  walk-adds wrap d n m h s =
-      (walk-folds Build {D = BuildFault} wrap (λ f. record { fault = f }) member_step _ m (λ (x : Members). x.sums) d n _ h s (adds-all d.units)).0
+      → Roomy m.sums n
+      → (Ok m.sums ≡ walked_sums reference c d) × Roomy m.sums 4000
+  walk-adds wrap d n m h s room =
+      let w = walk-folds Build {D = BuildFault} wrap (λ f. record { fault = f }) member_step _ m (λ (x : Members). x.sums) d n _ h s (adds-all d.units) in
+      (w.0, record { generation = omega (arith, room.generation); grams = room.grams })

@@ -21,9 +21,30 @@ use Rattle.build.specs.Margins.{mean_of, mean_unless}
 use Rattle.build.specs.Members.{first_without, or_code, sums_of, walked_sums}
 use Rattle.build.specs.declared.members.Sums.{Sums}
 
+-- ---- the fault of a cohort is that of its margin
+
+cond-err : (b : Bool) (e f : BuildFault) (c : Cohort) → Err f ≡ cond b (Err e) (Ok c) → (b ≡ true) × (f ≡ e)
+cond-err true e f c h = (refl, cc)
+cond-err false e f c h = (cc, cc)
+
 module _ (reference : ℕ) (us : List Listed) where
   abbrev margin : BuildMargin
   margin = record { margin = build_figure reference us (cohort_of reference us); cohort = cohort_of reference us }
+
+  none-built : (f : BuildFault) → Err f ≡ cohort_or reference us → Err f ≡ built_unless (cohort_fault reference us) margin
+  none-built f h =
+      let k = cond-err (eqb (length (unregistered us)) 0) _ f _ h in
+      rw k.0 (ap Err k.1)
+
+  fit-built : (e : Ending) (b : Bool) (f : BuildFault)
+      → Err f ≡ if_fit Build e b (cohort_or reference us) (λ x. Err (record { fault = x }))
+      → Err f ≡ if_fit Build e b (built_unless (cohort_fault reference us) margin) (λ x. Err (record { fault = x }))
+  fit-built proper true f h = none-built f h
+  fit-built proper false f h = cc
+  fit-built (faulty x) b f h = cc
+
+pub built-err : (reference : ℕ) (c : Course Listed) (f : BuildFault) → Err f ≡ walked_cohort reference c → Err f ≡ built reference c
+built-err reference c f h = fit-built reference c.units c.ending (leb (length c.units) limit) f h
 
 -- ---- the mean of the sums is the margin
 

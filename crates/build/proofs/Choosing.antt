@@ -1,17 +1,19 @@
 -- From the runs of a list to its cohort.
-use Rattle.std.proofs.Common.{◌≡◌, ℕ, ◌+◌, ◌-◌, ◌*◌, ◌≤◌, true, false, not, ◌&&◌, eqb, leb, List, [], ◌∷◌, length, take, Ok, filter, Result, sym, refl, ap, ◌∙◌, arith}
+use Rattle.std.proofs.Common.{◌≡◌, ℕ, ◌+◌, ◌-◌, ◌*◌, ◌≤◌, true, false, not, ◌&&◌, eqb, leb, List, [], ◌∷◌, length, take, Ok, Err, filter, Result, sym, refl, ap, ◌∙◌, arith}
 use Rattle.std.proofs.lemmas.List.Filters.{length-filter_both}
 use Rattle.std.proofs.lemmas.List.{length-take-le, take_all}
-use Rattle.std.proofs.lemmas.Bool.{cond-false, eq-eqb, ne_eqb, le-leb, lt-leb}
+use Rattle.std.proofs.lemmas.Bool.{cond-true, cond-false, eq-eqb, ne_eqb, le-leb, lt-leb}
 use Rattle.std.proofs.lemmas.Bool.Decides.{nat_tests}
 use Rattle.model.specs.Cohort.{cohort_of, is_old, is_unregistered, join_count, joining, kept_units, olds, reaches, registered, registered_count, sample_run, target, unregistered, with_registered}
 use Rattle.model.specs.Course.{Course}
+use Rattle.model.specs.Faults.{new_fault}
 use Rattle.model.specs.Methods.{generation}
 use Rattle.model.specs.Units.{Listed, told}
 use Rattle.model.specs.declared.answers.Cohort.{Cohort}
 use Rattle.model.specs.declared.answers.CohortSet.TheVariants.{Sample, WithRegistered, WithOld}
 use Rattle.model.specs.declared.faults.BuildFault.{BuildFault}
 use Rattle.model.specs.declared.faults.Layer.TheVariants.{Build}
+use Rattle.model.specs.declared.faults.Rule.TheVariants.{NoBuildUnit}
 use Rattle.model.proofs.Fronts.{kept-few, kept-twice}
 use Rattle.model.proofs.Joining.{joining-alike, joining-within}
 use Rattle.register.proofs.Walking.{Fits, fits-few, fits-is, ok-fits, ok-is}
@@ -82,6 +84,9 @@ module _ (reference : ℕ) (c : Course Listed) where
         let count = joining-all (quota Unregistered 4001 0) 0 0 (unregistered us) (omega (arith, fits-few c fits, kept-few is_unregistered us)) in
         let whole : take (joining (met_by (quota Unregistered 4001 0)) 0 0 (unregistered us)) (unregistered us) ≡ unregistered us = rw count (take_all _ (unregistered us) (omega arith)) in
         (ap (λ (x : Run). x.all.units) is ∙ ap length whole, ap (λ (x : Run). x.all.generation) is ∙ ap generation whole)
+
+    pub cohort-none : (f : BuildFault) → f ≡ record { fault = new_fault NoBuildUnit Build 0 } → all.all.units ≡ 0 → Answer (Err f)
+    cohort-none f is none = ap Err is ∙ sym (cond-true _ _ _ (eq-eqb _ _ (sym all_are.0 ∙ none))) ∙ sym (fits-is c fits Build (cohort_or reference us) _)
 
     module _ (some : all.all.units ≡ 0 → ⊥) (k : Quota) (of-sample : k ≡ quota Unregistered 5 all.all.generation) (sample : Run) (w : Walked k sample) where
       chosen : (x : Cohort) → x ≡ cohort_of reference us → Answer (Ok x)

@@ -11,7 +11,7 @@ use Rattle.model.specs.declared.units.PowerUnit.{PowerUnit}
 use Rattle.model.proofs.Joining.{generates-more}
 use Rattle.register.proofs.Walking.{walk-folds}
 use Rattle.build.specs.Kinds.{belongs, long_ago}
-use Rattle.build.specs.Runs.{grow_step, met_by, no_run, run_of, run_step, walked_run, with_unit}
+use Rattle.build.specs.Runs.{Small, grow_step, met_by, no_run, run_of, run_step, walked_run, with_unit}
 use Rattle.build.specs.declared.runs.Growing.{Growing}
 use Rattle.build.specs.declared.runs.Quota.{Quota}
 use Rattle.build.specs.declared.runs.Run.{Run}
@@ -96,6 +96,15 @@ module _ (reference : ℕ) (q : Quota) where
   pub walk-counts : {E : Type 0} (wrap : Fault → E) (c : Course Listed) (n : ℕ) (j : Growing)
       → Ok n ≡ if_walked Build c (Ok (length c.units)) (λ f. Err (wrap f))
       → j ≡ fold grow_step (record { reference = reference; quota = q; run = no_run }) (take 4000 (map told c.units))
-      → Ok j.run ≡ walked_run reference q c
-  walk-counts wrap c n j h s =
-      (walk-folds Build {D = BuildFault} wrap (λ f. record { fault = f }) grow_step _ j (λ (x : Growing). x.run) c n _ h s (joins (map told c.units) no_run ∙ counts-run c.units)).0
+      → Small j.run n
+      → (Ok j.run ≡ walked_run reference q c) × Small j.run 4000
+  walk-counts wrap c n j h s small =
+      let w = walk-folds Build {D = BuildFault} wrap (λ f. record { fault = f }) grow_step _ j (λ (x : Growing). x.run) c n _ h s (joins (map told c.units) no_run ∙ counts-run c.units) in (
+        w.0,
+        record {
+          units = omega (arith, small.units);
+          generation = omega (arith, small.generation);
+          young = omega (arith, small.young);
+          fresh = omega (arith, small.fresh);
+        },
+      )

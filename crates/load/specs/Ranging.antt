@@ -1,10 +1,14 @@
 -- What a load year answers with is a load.
-use Rattle.std.specs.Prelude.{◌≡◌, ℕ, ◌+◌, ◌≤◌, true, Ok, Err, ◌&&◌, List, length, nat_le, nat_lt, slice_index_or, refl}
+use Rattle.std.specs.Prelude.{◌≡◌, ℕ, ◌+◌, ◌≤◌, true, Ok, Err, ◌≢◌, ◌&&◌, List, length, nat_le, nat_lt, slice_index_or, refl}
 use Rattle.std.proofs.Common.{inl, inr}
 use Rattle.std.proofs.lemmas.Bool.{cases_Bool, leb-true}
+use Rattle.model.specs.declared.faults.Fault.{Fault}
 use Rattle.model.specs.declared.faults.LoadFault.{LoadFault}
 use Rattle.model.specs.LoadYears.{Hour, most_load, fails, hour_answer, is_load, list_year, load, load_at, summed}
 use Rattle.model.proofs.LowCost.{load-laws}
+
+pub fault-no-load : (f : Fault) (n : ℕ) → fails f ≢ load n
+fault-no-load f n e = cc
 
 pub answered-load : (a : Hour) (n : ℕ) → Ok n ≡ hour_answer a → a ≡ load n
 answered-load (load m) n e = cc

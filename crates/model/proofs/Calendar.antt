@@ -23,3 +23,13 @@ day-from-digits n h =
       first = grind (arith, nat_tests, h);
       last = grind (arith, nat_tests, h);
     }
+
+pub digits-from-day : (n : ℕ) → CalendarDay n → is_day n ≡ true
+digits-from-day n d =
+    let l = month-length-le d.year d.month in
+    let m = month-le d.year d.month (omega (arith, d.first, d.last)) in
+    let w = d.written in
+    let y : n / 10000 ≡ d.year = omega (arith, w, l, m, d.last) in
+    let k : n / 100 % 100 ≡ d.month = omega (arith, w, l, m, d.last) in
+    let e : n % 100 ≡ d.day = omega (arith, w, l, m, d.last) in
+    rw (y, k, e) (grind (arith, nat_tests, d.from, d.to, d.first, d.last))

@@ -28,6 +28,10 @@ pub answered-some : (u : PowerUnit) (us : List PowerUnit) (e : Ending) → Ok (S
 answered-some u [] e p = absurd (end-some u e p)
 answered-some u (x ∷ us) e p = cc
 
+pub answered-err : (f : RegisterFault) (us : List PowerUnit) (e : Ending) → Err f ≡ answered us e → (us ≡ []) × (e ≡ faulty f.fault)
+answered-err f [] e p = (refl, end-err f e p)
+answered-err f (u ∷ us) e p = (cc, cc)
+
 -- a walk that came to its end
 pub fit-ok : {A E : Type 0} (wrap : Fault → E) (layer : Layer) (e : Ending) (few : Bool) (n m : A)
     → Ok n ≡ if_fit {B = Result A E} layer e few (Ok m) (λ f. Err (wrap f)) → (e ≡ proper) × (few ≡ true) × (n ≡ m)

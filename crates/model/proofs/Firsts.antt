@@ -72,5 +72,3 @@ first-same tells p d xs ys s once =
           let g = parted tells x ys (counted tells x (a ++ b) ys front) in
           sym (first-parted p d ys g.0 x g.1 g.2 f.3 (omega arith))
     ]
-
--- ---- a loop that looks for the first

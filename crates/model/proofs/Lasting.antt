@@ -5,6 +5,7 @@ use Rattle.std.proofs.lemmas.List.{map-append}
 use Rattle.model.specs.Course.{Course, Ending, faulty, proper, told_course}
 use Rattle.model.specs.Merge.{lastly, with_last}
 use Rattle.model.specs.Units.{Falling, InRange, Listed, Ranged, told}
+use Rattle.model.specs.declared.units.PowerUnit.{PowerUnit}
 
 ranged-lastly : (u : Listed) (us : List Listed) (e : Ending) → Ranged us → InRange u → Ranged (lastly u us e).units
 ranged-lastly u us proper p q = All-push InRange us u p q
@@ -30,3 +31,6 @@ told-lastly u us (faulty _) = refl
 
 told-last : (u : Listed) (c : Course Listed) → with_last (told u) (told_course c) ≡ told_course (with_last u c)
 told-last u c = told-lastly u c.units c.ending
+
+pub last-restarted : {c' : Course PowerUnit} (u : Listed) (c : Course Listed) → c' ≡ told_course c → with_last (told u) c' ≡ told_course (with_last u c)
+last-restarted u c p = rw p (told-last u c)

@@ -26,3 +26,4 @@ pub mod Sums
 pub mod Values
 pub mod Verdicts
 pub mod Agreeing
+pub mod Letters

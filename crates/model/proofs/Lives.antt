@@ -149,6 +149,9 @@ pub record Quiet (v : Event) : Type 0 where
   pub accepted : (p : Contents) → Ok tt ≡ verdict p v
   pub kept : (p : Contents) → changed p v ≡ p
 
+pub quiet-restart : Quiet Restart
+quiet-restart = record { accepted = λ _. refl; kept = λ _. refl }
+
 pub quiet_next : Quiet Next
 quiet_next = record { accepted = λ _. refl; kept = λ _. refl }
 

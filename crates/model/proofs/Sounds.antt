@@ -11,7 +11,7 @@ use Rattle.model.specs.declared.events.Event.TheVariants.{EnterFuel, EnterUnit, 
 use Rattle.model.specs.declared.units.Fuel.{Fuel}
 use Rattle.model.specs.Plain.{Before, Contents, Ordered, Reached, changed, empty, first_by, fuel_in_range, fuel_of, is_fuel, no_fuel, verdict}
 use Rattle.model.specs.Units.{Falling, Listed, Standing, listed_unit}
-use Rattle.model.proofs.Lives.{run-keeps}
+use Rattle.model.proofs.Lives.{Apart, run-keeps, shown-apart}
 use Rattle.model.proofs.Verdicts.{passed-fuel}
 
 -- ---- fuels
@@ -56,6 +56,9 @@ ordered-prop (u ∷ us) = ×_prop (all_prop (Before u) (λ v. ×_prop le_prop (�
 
 pub reached-ordered : (p : Contents) → Reached p → Ordered p.units
 reached-ordered p reached = ∥∥₁_elim reached (ordered-prop p.units) (λ s. s.1.ordered)
+
+pub reached-apart : (p : Contents) → Reached p → Apart p.units
+reached-apart p reached c = ∥∥₁_elim reached le_prop (λ s. shown-apart s.0 p s.1 c)
 
 -- a list in order has days that never rise
 pub falling-ordered : (us : List Standing) → Ordered us → Falling (map listed_unit us)

@@ -17,6 +17,15 @@ same-times f f' e e' p q = omega (arith, ap (λ x. x * (e.num * e'.den)) p, ap (
 pub same_over : (f f' e e' : Frac) → Same f f' → Same e e' → Same (over f e) (over f' e')
 same_over f f' e e' p q = omega (arith, ap (λ x. x * (e.den * e'.num)) p, ap (λ x. x * (f'.num * f.den)) (sym q))
 
+pub same-assoc : (f e h : Frac) → Same (plus (plus f e) h) (plus f (plus e h))
+same-assoc f e h = omega arith
+
+pub same-swap : (f e h : Frac) → Same (plus f (plus e h)) (plus e (plus f h))
+same-swap f e h = omega arith
+
+pub same-times-plus : (w f e : Frac) → Same (plus (times w f) (times w e)) (times w (plus f e))
+same-times-plus w f e = omega arith
+
 pub within_same : (t : Frac) (a : ℕ) (f e : Frac) → 0 < e.den → Same f e → Within t a f → Within t a e
 within_same t a f e pos p w =
     let n = ap (λ x. t.den * x) p in

@@ -2,14 +2,14 @@
 use Rattle.std.proofs.Common.{◌≡◌, ℕ, zero, suc, ◌<◌, ◌≤◌, Bool, true, false, List, [], ◌∷◌, length, get_or, take, is_ok, Ok, Err, count_by, Result, sym, refl, ap, inl, inr, arith}
 use Rattle.std.specs.List.{AllByRecursion}
 use Rattle.std.proofs.lemmas.Bool.{both_ways, cases_Bool, eqb-false, leb-false, ltb-false, not-false}
-use Rattle.model.specs.declared.events.Event.TheVariants.{EnterFuel, EnterUnit}
+use Rattle.model.specs.declared.events.Event.TheVariants.{EnterBurn, EnterFuel, EnterUnit}
 use Rattle.model.specs.declared.faults.BookFault.{BookFault}
 use Rattle.model.specs.declared.faults.Fault.{Fault}
 use Rattle.model.specs.declared.units.BurnEntry.{BurnEntry}
 use Rattle.model.specs.declared.units.Fuel.{Fuel}
 use Rattle.model.specs.declared.units.UnitEntry.{UnitEntry}
 use Rattle.model.specs.Calendar.{is_day}
-use Rattle.model.specs.Plain.{Contents, any, burn_of, exceeds, first, fuel_checks, fuel_in_range, is_fuel, is_unit, unit_checks, unit_in_range, unit_of, verdict}
+use Rattle.model.specs.Plain.{Contents, any, burn_checks, burn_of, exceeds, first, fuel_checks, fuel_in_range, is_fuel, is_unit, unit_checks, unit_in_range, unit_of, verdict}
 
 pub passed : (cs : List (Bool × Fault)) → is_ok (first cs) ≡ true → AllByRecursion (λ c. c.0 ≡ false) cs
 passed [] ok = tt
@@ -54,6 +54,16 @@ pub record PassedBurn (p : Contents) (e : BurnEntry) : Type 0 where
   pub fuel : any (is_fuel e.fuel) p.fuels ≡ true
   pub room : length (unit_of e.unit p.units).burns < 4
   pub capped : exceeds (unit_of e.unit p.units) (burn_of p e) ≡ false
+
+pub passed-burn : (p : Contents) (e : BurnEntry) → is_ok (verdict p (EnterBurn e)) ≡ true → PassedBurn p e
+passed-burn p e ok =
+    let t = passed (burn_checks p e) ok in
+    record {
+      quantity = ltb-false 10000000 e.quantity t.1.0;
+      fuel = not-false (any (is_fuel e.fuel) p.fuels) t.1.1.1.1.0;
+      room = leb-false 4 (length (unit_of e.unit p.units).burns) t.1.1.1.1.1.0;
+      capped = t.1.1.1.1.1.1.0;
+    }
 
 -- The first test that holds names the refusal, and where none does there is none.
 pub refused-at : (cs : List (Bool × Fault)) (k : ℕ) (d : Bool × Fault) → k < length cs → AllByRecursion (λ c. c.0 ≡ false) (take k cs) → (get_or cs k d).0 ≡ true → Err (record { fault = (get_or cs k d).1 }) ≡ first cs

@@ -4,3 +4,4 @@ pub mod Digits
 pub mod RoundTrip
 pub mod Steps
 pub mod Writing
+pub mod Letters

@@ -1,5 +1,5 @@
 -- The loop that writes records: those written so far stand in front, and behind them the buffer is as it was.
-use Rattle.std.proofs.Common.{◌≡◌, ℕ, ◌+◌, ◌*◌, ◌≤◌, List, [], ◌∷◌, ◌++◌, length, take, drop, Some, sym, ap, ◌∙◌, arith}
+use Rattle.std.proofs.Common.{◌≡◌, ℕ, ◌+◌, ◌*◌, ◌≤◌, List, [], ◌∷◌, ◌++◌, length, take, drop, Some, None, refl, sym, ap, ◌∙◌, arith}
 use borrow.Rule.Slice.PartMut.{put_mid}
 use Rattle.std.proofs.lemmas.List.{append_assoc, drop-drop}
 use Rattle.std.proofs.lemmas.Slice.{drop-put_mid, take-put_mid}
@@ -18,6 +18,10 @@ pub record Writing (all left : List PowerUnit) (at : ℕ) (buffer start : List �
 pub some_first : (u : PowerUnit) (us : List PowerUnit) → Some u ≡ first_unit us → us ≡ u ∷ tail us
 some_first u [] e = cc
 some_first u (v ∷ us) e = cc
+
+pub none_left : (us : List PowerUnit) → None ≡ first_unit us → us ≡ []
+none_left [] e = refl
+none_left (v ∷ us) e = cc
 
 drop_more : (at : ℕ) (xs ys : List ℕ) → drop at xs ≡ drop at ys → drop (at + 32) xs ≡ drop (at + 32) ys
 drop_more at xs ys e = sym (drop-drop 32 at xs) ∙ ap (drop 32) e ∙ drop-drop 32 at ys

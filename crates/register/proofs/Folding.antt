@@ -1,12 +1,17 @@
 -- The loop of a walk: the units taken so far, and those still to come.
-use Rattle.std.proofs.Common.{◌≡◌, ℕ, ◌+◌, ◌-◌, ◌*◌, ◌<◌, ◌≤◌, List, [], ◌∷◌, map, length, take, min, Some, None, Ok, Err, fold, Option, Result, sym, ap, ◌∙◌, add-one, arith}
+use Rattle.std.proofs.Common.{◌≡◌, ℕ, ◌+◌, ◌-◌, ◌*◌, ◌<◌, ◌≤◌, List, [], ◌∷◌, map, length, take, min, false, leb, Some, None, Ok, Err, fold, Option, Result, sym, ap, ◌∙◌, add-one, arith}
+use lib.ListN.{length-map}
+use Rattle.std.proofs.lemmas.Bool.{lt-leb}
 use Rattle.std.specs.List.{AllByRecursion}
-use Rattle.model.specs.Course.{Course, if_walked, limit, told_course}
+use Rattle.model.specs.Course.{Course, if_walked, limit, proper, told_course}
+use Rattle.model.specs.Faults.{new_fault}
 use Rattle.model.specs.Fraction.{Frac}
 use Rattle.model.specs.History.{Composition, listed}
 use Rattle.model.specs.Units.{EmitsOption, Listed, Ranged, rounded_option, told}
+use Rattle.model.specs.declared.faults.Fault.{Fault}
 use Rattle.model.specs.declared.faults.Layer.{Layer}
 use Rattle.model.specs.declared.faults.RegisterFault.{RegisterFault}
+use Rattle.model.specs.declared.faults.Rule.TheVariants.{TooManyUnits}
 use Rattle.model.specs.declared.units.PowerUnit.{PowerUnit}
 use Rattle.model.proofs.Rounding.{rounded-cap}
 use Rattle.register.specs.Folds.{AtMost, Cap}
@@ -72,6 +77,14 @@ module _ {S : Type 0} (step : S → PowerUnit → S) (fits : S → ℕ → Type 
 -- what a walk answers
 abbrev pub walk_answer : Layer → Course Listed → Result ℕ RegisterFault
 walk_answer layer c = if_walked layer c (Ok (length c.units)) (λ f. Err (record { fault = f }))
+
+-- at the end, past the limit
+pub walked_many : (layer : Layer) (c : Course Listed) {S : Type 0} (step : S → PowerUnit → S) (fits : S → ℕ → Type 0) (start s : S) (left : List PowerUnit) (count : ℕ)
+    → Folding step fits start (map told c.units) left count s → left ≡ [] → c.ending ≡ proper
+    → {f : Fault} → f ≡ new_fault TooManyUnits layer 0 → 4000 < count → Err (record { fault = f }) ≡ walk_answer layer c
+walked_many layer c step fits start s left count w n proper-end is h =
+    let t : leb (length c.units) limit ≡ false = lt-leb _ _ (omega (arith, w.counts, w.top, ap length n, length-map c.units told)) in
+    rw (proper-end, t) (ap (λ x. Err (record { fault = x })) is)
 
 -- from the register as a step found it, with contents p, to the register as the call did, with contents q
 pub restart-moved : {p q : Composition} → p ≡ q → {d : Course PowerUnit} → d ≡ told_course (listed p) → d ≡ told_course (listed q)

@@ -12,7 +12,6 @@ use Rattle.model.specs.declared.answers.Cohort.{Cohort}
 use Rattle.model.specs.declared.answers.CombinedMargin.{CombinedMargin}
 use Rattle.model.specs.declared.faults.CombinedFault.{CombinedFault}
 use Rattle.model.specs.declared.units.PowerUnit.{PowerUnit}
-use Rattle.worked.specs.Asked.{Asked}
 
 -- what the numbers of a question come to over the list
 pub record Comes (wom wbm reference : ℕ) (c : Course Listed) (m : CombinedMargin) : Type 0 where
@@ -38,7 +37,7 @@ module _ {wom wbm reference : ℕ} {entry exit : Composition} {coming : Course P
       let f : n.combined ≡ m.combined = p.figure ∙ (rw (o, b) c.combined) in
       ap Ok (margin-is _ _ _ _ _ _ _ _ f o b k)
 
--- the register is known to be made of `start`
-pub answers : {reference : ℕ} {entry start : Composition} {r : Result CombinedMargin CombinedFault} {m : CombinedMargin} → entry ≡ start
-    → Asked reference entry r → Comes 50 50 reference (listed start) m → r ≡ Ok m
-answers {r} {m} e (_, _, p) c = comes-out r m p (rw e c)
+  -- the register is known to be made of `start`
+  pub answers : {start : Composition} {r : Result CombinedMargin CombinedFault} {m : CombinedMargin} → entry ≡ start
+      → Promise average_meaning (λ us a. a ≡ average_answer us) 2 true wom wbm reference entry exit coming r → Comes wom wbm reference (listed start) m → r ≡ Ok m
+  answers {start} {r} {m} e p c = comes-out r m p (rw e c)

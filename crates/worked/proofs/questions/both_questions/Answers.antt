@@ -7,4 +7,4 @@ use Rattle.worked.proofs.questions.both_questions.Goals as goal
 pub returns : goal.returns
 returns c =
     let holds = ap year_book c.in_ok-example.ensures in
-    (answers holds c.ask_both.ensures.first first-comes, answers holds c.ask_both.ensures.second later-comes)
+    (answers holds c.ask_both.ensures.first.2 first-comes, answers holds c.ask_both.ensures.second.2 later-comes)
