@@ -1,7 +1,7 @@
 // A whole stream of records, of every kind but strikes and loads, taken in one call; and how what is not built reads.
 use super::shared::margin;
 use book::Book;
-use intake::respond;
+use intake::Feature;
 use model::{CohortSet, Fault, IntakeFault, Layer, Reply, Rule};
 use record_streams::{Intake, Methods, take_all};
 use std::alloc::{AllocError, Global};
@@ -75,17 +75,27 @@ fn every_method_in_one_stream(rt: HostRuntime) -> Result<(), Fail> {
     Ok(())
 }
 
-// A program that ends with it shows the form for programmers, so that this one reads as text too.
+// A program that ends with one shows the form for programmers, so that this form reads as text too.
 #[test]
 fn what_is_not_built_reads_as_text(rt: HostRuntime) -> Result<(), Fail> {
-    let mut book = Book::new(rt.alloc())?;
-    let mut intake = Intake::new();
-    let mut piece = [0u8; 32];
-    piece[0] = b'H';
-    let missing = respond(&mut intake, &mut book, &piece)
-        .err()
-        .ok_or("it is built")?;
-    let text = format!(in rt.alloc(); "{missing:?}")?;
-    assert_eq!(rt; text.as_str(), "load records (H) are not built yet");
+    let texts = [
+        (Feature::LoadRecords, "load records (H) are not built yet"),
+        (
+            Feature::YearlyRecords,
+            "yearly records (Y) are not built yet",
+        ),
+        (
+            Feature::SimpleMethod,
+            "the simple method (1) is not built yet",
+        ),
+        (
+            Feature::AdjustedMethod,
+            "the simple adjusted method (2) is not built yet",
+        ),
+    ];
+    for (missing, text) in texts {
+        assert_eq!(rt; format!(in rt.alloc(); "{missing:?}")?.as_str(), text);
+        assert_eq!(rt; format!(in rt.alloc(); "{missing}")?.as_str(), text);
+    }
     Ok(())
 }
